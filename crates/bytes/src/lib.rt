@@ -1,0 +1,1 @@
+//! Bytes in a lent slice, and numbers in them, low byte first.

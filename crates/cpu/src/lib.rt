@@ -1,0 +1,2 @@
+//! What one instruction does.
+pub mod call;

@@ -1,0 +1,1 @@
+//! 32-bit words to instructions.

@@ -1,0 +1,2 @@
+//! The abstract computer.
+pub mod plan;
