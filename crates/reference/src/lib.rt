@@ -1,0 +1,2 @@
+//! The model as a program.
+pub mod row;
