@@ -1,2 +1,3 @@
 //! The model as a program.
 pub mod row;
+mod turn;
