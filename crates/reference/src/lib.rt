@@ -1,3 +1,5 @@
 //! The model as a program.
+pub mod letter;
+pub mod queue;
 pub mod row;
 mod turn;

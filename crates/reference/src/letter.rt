@@ -1,0 +1,18 @@
+//! A message as a channel keeps it.
+ghost use mathlib.Core.Path.{_≡_};
+ghost use Prim.Native.Nat.{_≤_};
+ghost use lib.ListN.{length};
+
+pub mod methods;
+
+/// The most bytes of any message.
+pub const MOST: usize = 1024;
+
+#[derive(Clone, Copy)]
+pub struct Letter {
+    sent: u64,
+    size: usize,
+    bytes: [u8; 1024],
+    ghost short: { size ≤ 1024 },
+    ghost whole: { length bytes ≡ 1024 },
+}
