@@ -1,0 +1,2 @@
+//! What becomes of a partition.
+use super::Partition;
