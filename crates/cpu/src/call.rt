@@ -10,9 +10,16 @@ pub enum Call {
     /// 2: asks for the time.
     Clock,
     /// 3: sends bytes of the partition's memory into a channel.
-    Send { channel: u32, address: u32, length: u32 },
+    Send {
+        channel: u32,
+        address: u32,
+        length: u32,
+    },
     /// 4: takes the first message of a channel into the partition's memory.
-    Take { channel: u32, address: u32 },
+    Take {
+        channel: u32,
+        address: u32,
+    },
     /// 5: takes the unheard byte that came first.
     Hear,
     /// Every other number: answered with no, and nothing is done.

@@ -1,0 +1,4 @@
+use Rattle.decode.proofs.decode.Needs as need
+
+pub returns : need.returns
+returns c = ?
