@@ -6,6 +6,8 @@ use Prim.Native.Nat.{ℕ, _+_, _-_, _≤_, _<_}
 use native.Mathlib.Omega.{arith}
 use borrow.Author.Needs.{needs}
 use lib.ListN.{length, take, drop, set, getD}
+use Rattle.reference.specs.declared.row.Row.{Row}
+use Rattle.reference.specs.Rows.{held}
 use Rattle.std.specs.declared.option.Option.the-variants.{Some, None}
 use Rattle.std.specs.Runs.{nth}
 use Rattle.std.proofs.shelf.Lists.{places, same-lists, length-take-le, length-take, length-set, length-drop, getD-take, getD-drop, getD-set-same, getD-set-other, set-past, getD-default}
@@ -61,3 +63,8 @@ module _ {X : Type 0} where
 
   pub none-down : (xs : List X) (n : ℕ) → n ≡ 0 → take n xs ≡ drop 1 (take n xs)
   none-down xs n e = rw e refl
+
+-- A row holds no more than it has places.
+pub few : {T : Type 0} {N : ℕ} (r : Row T N) → length (held r) ≤ N
+unfolding held
+few r = omega (arith, r .within, length-take (r .count) (r .items))

@@ -22,6 +22,9 @@ tasksOf x = map taskOf (held (x .tasks))
 unfoldable pub runsOf : Partition → List (Run Core)
 runsOf x = map runOf (held (x .tasks))
 
+unfoldable pub heardOf : Partition → List ℕ
+heardOf x = held (x .heard)
+
 -- The part with this memory, which has shown these bytes.
 unfoldable pub partOf : Partition → List ℕ → List (ℕ × ℕ) → Part Core
-partOf x m s = record { memory = m; tasks = runsOf x; heard = held (x .heard); shown = s }
+partOf x m s = record { memory = m; tasks = runsOf x; heard = heardOf x; shown = s }

@@ -5,7 +5,7 @@ ghost use mathlib.Core.List.{_++_, _∷_, []};
 ghost use mathlib.Core.Bool.{cond};
 ghost use lib.Dec.{ltb};
 ghost use lib.ListN.{length, drop, getD, set};
-ghost use Prim.Native.Nat.{_<_};
+ghost use Prim.Native.Nat.{_≤_};
 ghost use Rattle.std.specs.Runs.{nth};
 ghost use Rattle.reference.specs.Rows.{held};
 
@@ -20,6 +20,7 @@ impl<T: Copy, const N: usize> Row<T, N> {
     /// How many things it holds.
     pub fn len(&self) -> usize
         ensures value { λ r. ⌜ r ≡ length (held (now (self .entry))) ⌝ }
+        ensures bound { λ r. ⌜ r ≤ N ⌝ }
     {
         self.count
     }

@@ -32,6 +32,13 @@ impl Running {
         }
     }
 
+    /// The higher goes first.
+    pub(crate) fn priority(&self) -> u8
+        ensures value { λ r. ⌜ r ≡ taskOf (now (self .entry)) .priority ⌝ }
+    {
+        self.plan.priority
+    }
+
     /// A waiting task begins anew when its period is over.
     pub(crate) fn woken(self, number: u8, time: u64) -> Running
         ensures value { λ r. ⌜ runOf r ≡ woken rv32i (taskOf self) number time (runOf self) ⌝ }

@@ -10,4 +10,4 @@ pub returns : need.returns
 unfolding held
 returns g c =
     let l : c .args .self .now .count ≤ length (c .args .self .now .items) = omega arith in
-    record { value = sym (length-take-le (c .args .self .now .count) (c .args .self .now .items) l) }
+    record { value = sym (length-take-le (c .args .self .now .count) (c .args .self .now .items) l); bound = omega arith }
