@@ -7,28 +7,6 @@ ghost use Rattle.decode.specs.Fields.{signed};
 use decode::instruction::LoadKind;
 use decode::instruction::StoreKind;
 
-/// How many bytes a load reads.
-pub fn load_bytes(kind: LoadKind) -> u32
-    ensures value { λ r. ⌜ r ≡ loadBytes kind ⌝ }
-{
-    match kind {
-        LoadKind::Lb | LoadKind::Lbu => 1,
-        LoadKind::Lh | LoadKind::Lhu => 2,
-        LoadKind::Lw => 4,
-    }
-}
-
-/// How many bytes a store writes.
-pub fn store_bytes(kind: StoreKind) -> u32
-    ensures value { λ r. ⌜ r ≡ storeBytes kind ⌝ }
-{
-    match kind {
-        StoreKind::Sb => 1,
-        StoreKind::Sh => 2,
-        StoreKind::Sw => 4,
-    }
-}
-
 /// What a load makes of the number that it read.
 pub fn finish(kind: LoadKind, raw: u32) -> u32
     ensures value { λ r. ⌜ r ≡ extended kind raw ⌝ }

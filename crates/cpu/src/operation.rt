@@ -1,17 +1,13 @@
 //! What the instructions compute.
 ghost use mathlib.Core.Path.{_≡_};
-ghost use Prim.Native.Nat.{_-_, _%_, _<_};
 ghost use Rattle.cpu.specs.Effects.{displaced};
 ghost use Rattle.cpu.specs.Meaning.{
-  extended,
   leftBy,
-  loadBytes,
   low,
   meant,
   rightBy,
   shifted,
   signedRightBy,
-  storeBytes,
   taken,
   withImmediate,
   withRegister,
@@ -70,6 +66,7 @@ pub fn with_immediate(op: ImmediateOp, a: u32, operand: i32) -> u32
     }
 }
 
+/// Shifts go by the five low bits of n: to the left, to the right with zeros, to the right with the sign.
 fn left(a: u32, n: u32) -> u32
     ensures value { λ r. ⌜ r ≡ leftBy a n ⌝ }
 {

@@ -89,7 +89,7 @@ impl Registers {
                 self.x[11] = length;
             }
         }
-        self.pc = self.pc.wrapping_add(4);
+        self.go_on();
     }
 
     /// What the instruction of the word at the pc does, where memory has so many bytes; with no word there, it is wrong.
