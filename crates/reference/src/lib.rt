@@ -1,4 +1,5 @@
 //! The model as a program.
+mod access;
 pub mod letter;
 pub mod part;
 pub mod queue;

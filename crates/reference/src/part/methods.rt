@@ -3,21 +3,24 @@ use super::Partition;
 use crate::row::Row;
 use crate::task::Running;
 use cpu::call::Answer;
+use cpu::registers::Registers;
 use model::plan::Task;
 ghost use mathlib.Core.Path.{_≡_};
-ghost use mathlib.Core.Bool.{cond};
+ghost use mathlib.Core.Bool.{cond, true};
 ghost use mathlib.Core.List.{[], _∷_, _++_};
 ghost use lib.Dec.{ltb};
-ghost use lib.ListN.{length, drop, set, getD};
+ghost use lib.ListN.{length, drop, getD};
 ghost use Rattle.std.specs.Runs.{nth};
 ghost use Rattle.cpu.specs.Core.{fresh};
+ghost use Rattle.cpu.specs.Held.{coreOf};
 ghost use Rattle.cpu.specs.Rv32i.{rv32i};
+ghost use Rattle.std.specs.declared.option.Option.the-variants.{Some};
 ghost use Rattle.cpu.specs.declared.call.Answer.the-variants.{Value};
 ghost use Rattle.model.specs.declared.plan.State.the-variants.{Ready};
 ghost use Rattle.model.specs.World.{noTask};
-ghost use Rattle.model.specs.Tick.{looked, firstReady, firstHeard, better, isReady, mostUnheard};
+ghost use Rattle.model.specs.Tick.{looked, firstReady, firstHeard, better, isReady, mostUnheard, update, goesOn, waits, stops};
 ghost use Rattle.reference.specs.Rows.{held};
-ghost use Rattle.reference.specs.Parts.{tasksOf, runsOf, heardOf, runOf, taskOf};
+ghost use Rattle.reference.specs.Parts.{tasksOf, runsOf, heardOf, runOf};
 
 impl Partition {
     /// A partition without tasks.
@@ -43,8 +46,7 @@ impl Partition {
 
     /// A byte from outside comes; where as many wait as may, it is lost.
     pub(crate) fn arrive(&mut self, byte: u8)
-        ensures tasks { λ _. ⌜ tasksOf (now (self .exit)) ≡ tasksOf (now (self .entry)) ⌝ }
-        ensures runs { λ _. ⌜ runsOf (now (self .exit)) ≡ runsOf (now (self .entry)) ⌝ }
+        ensures same { λ _. ⌜ now (self .exit) .tasks ≡ now (self .entry) .tasks ⌝ }
         ensures heard { λ _. ⌜ heardOf (now (self .exit)) ≡ cond (ltb (length (heardOf (now (self .entry)))) mostUnheard) (heardOf (now (self .entry)) ++ byte ∷ []) (heardOf (now (self .entry))) ⌝ }
     {
         let _ = self.heard.push(byte);
@@ -53,8 +55,7 @@ impl Partition {
     /// Takes the unheard byte that came first.
     pub(crate) fn hear(&mut self) -> Answer
         ensures value { λ r. ⌜ r ≡ Value (firstHeard (heardOf (now (self .entry)))) ⌝ }
-        ensures tasks { λ _. ⌜ tasksOf (now (self .exit)) ≡ tasksOf (now (self .entry)) ⌝ }
-        ensures runs { λ _. ⌜ runsOf (now (self .exit)) ≡ runsOf (now (self .entry)) ⌝ }
+        ensures same { λ _. ⌜ now (self .exit) .tasks ≡ now (self .entry) .tasks ⌝ }
         ensures heard { λ _. ⌜ heardOf (now (self .exit)) ≡ drop 1 (heardOf (now (self .entry))) ⌝ }
     {
         let Some(byte) = self.heard.get(0) else {
@@ -125,12 +126,34 @@ impl Partition {
         self.tasks.get(i)
     }
 
-    /// Puts a task as it is now in its place.
-    pub(crate) fn put(&mut self, i: usize, run: Running)
-        ensures tasks { λ _. ⌜ tasksOf (now (self .exit)) ≡ set (tasksOf (now (self .entry))) i (taskOf run) ⌝ }
-        ensures runs { λ _. ⌜ runsOf (now (self .exit)) ≡ set (runsOf (now (self .entry))) i (runOf run) ⌝ }
+    /// The task goes on with this core.
+    pub(crate) fn goes_on(&mut self, i: usize, run: Running, core: Registers)
+        requires found { ⌜ nth (held (now self .tasks)) i ≡ Some run ⌝ }
+        requires ready { ⌜ isReady (runOf run .state) ≡ true ⌝ }
+        ensures tasks { λ _. ⌜ tasksOf (now (self .exit)) ≡ tasksOf (now (self .entry)) ⌝ }
+        ensures runs { λ _. ⌜ runsOf (now (self .exit)) ≡ update (runsOf (now (self .entry))) i (goesOn (coreOf core)) ⌝ }
         ensures heard { λ _. ⌜ heardOf (now (self .exit)) ≡ heardOf (now (self .entry)) ⌝ }
     {
-        self.tasks.put(i, run);
+        self.tasks.put(i, run.goes_on(core));
+    }
+
+    /// The task waits for its next period.
+    pub(crate) fn waits(&mut self, i: usize, run: Running, core: Registers)
+        requires found { ⌜ nth (held (now self .tasks)) i ≡ Some run ⌝ }
+        ensures tasks { λ _. ⌜ tasksOf (now (self .exit)) ≡ tasksOf (now (self .entry)) ⌝ }
+        ensures runs { λ _. ⌜ runsOf (now (self .exit)) ≡ update (runsOf (now (self .entry))) i (waits (coreOf core)) ⌝ }
+        ensures heard { λ _. ⌜ heardOf (now (self .exit)) ≡ heardOf (now (self .entry)) ⌝ }
+    {
+        self.tasks.put(i, run.waits(core));
+    }
+
+    /// The task does nothing more.
+    pub(crate) fn stops(&mut self, i: usize, run: Running)
+        requires found { ⌜ nth (held (now self .tasks)) i ≡ Some run ⌝ }
+        ensures tasks { λ _. ⌜ tasksOf (now (self .exit)) ≡ tasksOf (now (self .entry)) ⌝ }
+        ensures runs { λ _. ⌜ runsOf (now (self .exit)) ≡ update (runsOf (now (self .entry))) i stops ⌝ }
+        ensures heard { λ _. ⌜ heardOf (now (self .exit)) ≡ heardOf (now (self .entry)) ⌝ }
+    {
+        self.tasks.put(i, run.stops());
     }
 }

@@ -11,7 +11,6 @@ pub returns : need.returns
 unfolding tasksOf runsOf heardOf
 returns c =
     record
-      { tasks = refl
-      ; runs = refl
+      { same = refl
       ; heard = c .push .ensures .after ∙ ap (λ b. cond b (held (c .args .self .now .heard) ++ c .args .byte ∷ []) (held (c .args .self .now .heard))) (c .push .ensures .value)
       }

@@ -14,14 +14,13 @@ pub returns-in-rest : need.returns-in-rest
 unfolding tasksOf runsOf heardOf
 returns-in-rest c =
     let none : held (c .args .self .now .heard) ≡ [] = none-first _ (sym (c .get .ensures .value) ∙ c .in-rest .is) in
-    record { value = ap Value (none-heard _ none); tasks = refl; runs = refl; heard = none ∙ sym (ap (drop 1) none) }
+    record { value = ap Value (none-heard _ none); same = refl; heard = none ∙ sym (ap (drop 1) none) }
 
 pub returns : need.returns
 unfolding tasksOf runsOf heardOf
 returns c =
     record
       { value = ap Value (c .from .ensures ∙ first-heard _ _ _ (some-first (held (c .args .self .now .heard)) (c .in-Some .byte) (sym (c .get .ensures .value) ∙ c .in-Some .is)))
-      ; tasks = refl
-      ; runs = refl
+      ; same = refl
       ; heard = c .shift .ensures .after
       }
