@@ -1,6 +1,7 @@
 //! The model as a program.
 mod access;
 pub mod letter;
+mod own;
 pub mod part;
 pub mod queue;
 pub mod row;
