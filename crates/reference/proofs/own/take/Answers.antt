@@ -1,5 +1,5 @@
-use mathlib.Core.Path.{refl}
-use Rattle.std.proofs.shelf.Maps.{nth-read}
+use lib.ListN.{getD}
+use Rattle.std.proofs.shelf.Maps.{nth-getD}
 use Rattle.reference.proofs.Channels.{take-nowhere, take-there}
 use Rattle.reference.proofs.own.take.Needs as need
 
@@ -10,6 +10,6 @@ pub returns : need.returns
 returns c =
     record
       { value =
-          take-there (c .args .q) (c .args .time) (c .args .channels .now) (c .args .memory .now) (c .args .channel) (c .args .address) (c .index-channels-c .result) (c .take .last .self) (c .take .result) (c .take .last .memory) 
-            (nth-read _ _ (c .args .channel) (c .index-channels-c .result) refl (c .if-c-channels .left) (c .index-channels-c .is)) (c .take .ensures .same) (c .take .ensures .value)
+          take-there (c .args .q) (c .args .time) (c .args .channels .now) (c .args .memory .now) (c .args .channel) (c .args .address) (getD (c .args .channels .now) (c .args .channel) (c .index-channels-c .result)) (c .take .last .self) (c .take .result) (c .take .last .memory) 
+            (nth-getD (c .args .channels .now) (c .args .channel) (c .index-channels-c .result) (c .if-c-channels .left)) (c .take .ensures .same) (c .take .ensures .value)
       }
