@@ -33,15 +33,15 @@ fn extend(half: u32, raw: u32) -> u32
 }
 
 /// Whether an access of n bytes lies in memory, at a multiple of n.
-pub(crate) fn is_inside(n: u32, k: u32, size: u32) -> bool
+pub(crate) fn is_inside(n: u32, k: u32, size: usize) -> bool
     requires some { ⌜ 0 < n ⌝ }
     ensures value { λ r. ⌜ r ≡ inside n k size ⌝ }
 {
-    k % n == 0 && n <= size && k <= size - n
+    k % n == 0 && k as usize + n as usize <= size
 }
 
 /// Whether a load from an address is inside.
-pub(crate) fn load_inside(kind: LoadKind, address: u32, size: u32) -> bool
+pub(crate) fn load_inside(kind: LoadKind, address: u32, size: usize) -> bool
     ensures value { λ r. ⌜ r ≡ inside (loadBytes kind) address size ⌝ }
 {
     match kind {
@@ -52,7 +52,7 @@ pub(crate) fn load_inside(kind: LoadKind, address: u32, size: u32) -> bool
 }
 
 /// Whether a store to an address is inside.
-pub(crate) fn store_inside(kind: StoreKind, address: u32, size: u32) -> bool
+pub(crate) fn store_inside(kind: StoreKind, address: u32, size: usize) -> bool
     ensures value { λ r. ⌜ r ≡ inside (storeBytes kind) address size ⌝ }
 {
     match kind {

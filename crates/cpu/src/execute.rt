@@ -14,7 +14,7 @@ use decode::instruction::Instruction;
 use decode::reg::Reg;
 
 /// What the instruction at pc does, where rs1 and rs2 hold a and b, and memory has so many bytes.
-pub fn execute(i: Instruction, pc: u32, a: u32, b: u32, size: u32) -> Effect
+pub fn execute(i: Instruction, pc: u32, a: u32, b: u32, size: usize) -> Effect
     ensures value { λ r. ⌜ r ≡ effect i pc a b size ⌝ }
     ensures inside { λ r. ⌜ Inside size r ⌝ }
 {
@@ -101,7 +101,7 @@ fn after(pc: u32) -> u32
 }
 
 /// A jump that keeps where the task would have gone on.
-fn jump(rd: Reg, back: u32, target: u32, size: u32) -> Effect
+fn jump(rd: Reg, back: u32, target: u32, size: usize) -> Effect
     ensures value { λ r. ⌜ r ≡ jumps rd back target size ⌝ }
 {
     if is_inside(4, target, size) {
@@ -116,7 +116,7 @@ fn jump(rd: Reg, back: u32, target: u32, size: u32) -> Effect
 }
 
 /// A branch that is taken.
-fn branch(target: u32, size: u32) -> Effect
+fn branch(target: u32, size: usize) -> Effect
     ensures value { λ r. ⌜ r ≡ branches target size ⌝ }
 {
     if is_inside(4, target, size) {

@@ -93,7 +93,7 @@ impl Registers {
     }
 
     /// What the instruction of the word at the pc does, where memory has so many bytes; with no word there, it is wrong.
-    pub fn step(&self, word: Option<u32>, size: u32) -> Effect
+    pub fn step(&self, word: Option<u32>, size: usize) -> Effect
         ensures value { λ r. ⌜ r ≡ effectFetched (coreOf (now (self .entry))) word size ⌝ }
         ensures inside { λ r. ⌜ Inside size r ⌝ }
     {

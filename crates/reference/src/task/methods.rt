@@ -32,6 +32,13 @@ impl Running {
         }
     }
 
+    /// Its core.
+    pub(crate) fn core(&self) -> Registers
+        ensures value { λ r. ⌜ coreOf r ≡ runOf (now (self .entry)) .core ⌝ }
+    {
+        self.core
+    }
+
     /// The higher goes first.
     pub(crate) fn priority(&self) -> u8
         ensures value { λ r. ⌜ r ≡ taskOf (now (self .entry)) .priority ⌝ }
