@@ -1,2 +1,3 @@
 pub mod World
 pub mod Tick
+pub mod Promise

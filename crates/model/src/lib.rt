@@ -1,2 +1,3 @@
 //! The abstract computer.
 pub mod plan;
+pub mod promises;

@@ -1,0 +1,5 @@
+pub mod Places
+pub mod Steps
+pub mod Separation
+pub mod Own
+pub mod Priority

@@ -1,0 +1,46 @@
+//! What is promised of the abstract computer, over every kind of core: each function's contract is one statement, and
+//! its proof is the proof of that statement.
+ghost use Rattle.cpu.specs.Act.{Machine};
+ghost use Rattle.model.specs.Promise.{TickSeparates, Separates, ShowsInOwnTicks, ChangesInOwnTicks, ChannelsFit, FirstReady};
+
+/// From any state on: worlds that agree on a closed set of partitions agree on it after a tick, whatever the others are.
+pub fn tick_separates_stands<C>() -> u8
+    ensures { λ _. ⌜ ((M : Machine C) → TickSeparates M) ⌝ }
+{
+    0
+}
+
+/// Over a whole run: each partition of a closed set is the same, whatever the others are.
+pub fn separates_stands<C>() -> u8
+    ensures { λ _. ⌜ ((M : Machine C) → Separates M) ⌝ }
+{
+    0
+}
+
+/// What a partition shows it shows in its own ticks.
+pub fn shows_in_own_ticks_stands<C>() -> u8
+    ensures { λ _. ⌜ ((M : Machine C) → ShowsInOwnTicks M) ⌝ }
+{
+    0
+}
+
+/// A partition's memory, tasks and shown bytes change in its own ticks only.
+pub fn changes_in_own_ticks_stands<C>() -> u8
+    ensures { λ _. ⌜ ((M : Machine C) → ChangesInOwnTicks M) ⌝ }
+{
+    0
+}
+
+/// No channel holds more messages than it has places, or one if it has none, and none longer than it allows.
+pub fn channels_fit_stands<C>() -> u8
+    ensures { λ _. ⌜ ((M : Machine C) → ChannelsFit M) ⌝ }
+{
+    0
+}
+
+/// The task that goes first is ready, has the highest priority, and is the first of equals.
+pub fn first_ready_stands<C>() -> u8
+    ensures { λ _. ⌜ FirstReady C ⌝ }
+{
+    0
+}
