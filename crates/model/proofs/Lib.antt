@@ -3,3 +3,4 @@ pub mod Steps
 pub mod Separation
 pub mod Own
 pub mod Priority
+pub mod Same

@@ -1,3 +1,4 @@
 pub mod World
 pub mod Tick
+pub mod Whole
 pub mod Promise

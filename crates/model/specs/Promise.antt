@@ -19,6 +19,7 @@ use Rattle.model.specs.declared.plan.State.{State}
 use Rattle.model.specs.declared.plan.State.the-variants.{Ready}
 use Rattle.model.specs.World.{Plan, Run, Part, Sent, World, noTask, part, messages, turn}
 use Rattle.model.specs.Tick.{firstReady, tick, ticks, begin}
+use Rattle.model.specs.Whole.{wholeTick}
 
 -- SEPARATION. A is a set of partitions.
 
@@ -122,3 +123,7 @@ module _ {C : Type 0} (M : Machine C) where
   ChannelsFit =
       ((p : Plan) (w : World C) (row : List Arrival) → AllFit p w → AllFit p (tick M p w row))
       × ((p : Plan) (ms : List (List ℕ)) (rows : List (List Arrival)) → AllFit p (ticks M p (begin M p ms) rows))
+
+  -- The tick written over the whole world is this tick.
+  abbrev pub WholeIsSame : Type 0
+  WholeIsSame = (p : Plan) (w : World C) (row : List Arrival) → wholeTick M p w row ≡ tick M p w row

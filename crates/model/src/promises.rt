@@ -1,7 +1,7 @@
 //! What is promised of the abstract computer, over every kind of core: each function's contract is one statement, and
 //! its proof is the proof of that statement.
 ghost use Rattle.cpu.specs.Act.{Machine};
-ghost use Rattle.model.specs.Promise.{TickSeparates, Separates, ShowsInOwnTicks, ChangesInOwnTicks, ChannelsFit, FirstReady};
+ghost use Rattle.model.specs.Promise.{TickSeparates, Separates, ShowsInOwnTicks, ChangesInOwnTicks, ChannelsFit, FirstReady, WholeIsSame};
 
 /// From any state on: worlds that agree on a closed set of partitions agree on it after a tick, whatever the others are.
 pub fn tick_separates_stands<C>() -> u8
@@ -41,6 +41,13 @@ pub fn channels_fit_stands<C>() -> u8
 /// The task that goes first is ready, has the highest priority, and is the first of equals.
 pub fn first_ready_stands<C>() -> u8
     ensures { λ _. ⌜ FirstReady C ⌝ }
+{
+    0
+}
+
+/// The tick written over the whole world is the tick in local form.
+pub fn whole_is_same_stands<C>() -> u8
+    ensures { λ _. ⌜ ((M : Machine C) → WholeIsSame M) ⌝ }
 {
     0
 }
