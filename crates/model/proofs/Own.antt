@@ -20,13 +20,16 @@ use Rattle.model.specs.declared.plan.Channel.{Channel}
 use Rattle.model.specs.declared.plan.Task.{Task}
 use Rattle.model.specs.declared.plan.Arrival.{Arrival}
 use Rattle.model.specs.World.{Plan, Part, Sent, World, noPart, part, messages, turn}
-use Rattle.model.specs.Tick.{Change, none, becomes, Step, Sight, maySend, sending, taking, changed, partTick, seen, applied, withHeard, came, later, work, tick, ticks, newRuns, newParts, begin}
+use Rattle.model.specs.Tick.{Change, none, becomes, Step, Sight, maySend, sending, taking, changed, partTick, seen, applied}
+use Rattle.model.specs.Tick.{withHeard, came, later, work, tick, ticks, newRuns, newParts, begin}
 use Rattle.model.specs.Promise.{ShownInOwn, ShowsInOwnTicks, ChangesInOwnTicks, Fits, AllFit, ChannelsFit}
 use Rattle.model.proofs.Places.{getD-nth, getD-alike, set-keeps, getD-replicate-same}
 use Rattle.model.proofs.Steps.{partTick-holds, seen-is, hears, hears-keeps, came-time, came-channels, came-part}
 
 -- What unheard bytes make no difference to is the same after a row.
-came-keeps : {C X : Type 0} (f : Part C → X) → ((x : Part C) (bs : List ℕ) → f (withHeard x bs) ≡ f x) → (row : List Arrival) (w : World C) (q : ℕ) → f (part (came row w) q) ≡ f (part w q)
+came-keeps :
+    {C X : Type 0} (f : Part C → X) → ((x : Part C) (bs : List ℕ) → f (withHeard x bs) ≡ f x) → (row : List Arrival)
+    (w : World C) (q : ℕ) → f (part (came row w) q) ≡ f (part w q)
 unfolding part hears
 came-keeps {C} f h row w q =
     ap f (getD-nth (came row w .parts) q noPart)
@@ -37,7 +40,9 @@ came-keeps {C} f h row w q =
     go (Some x) = hears-keeps f h row q x
 
 -- What is sent fits, and so does what is left.
-fits-sent : (q t : ℕ) (s : Sight) (bs : List ℕ) → maySend q s (length bs) ≡ true → Fits (s .plan) (s .messages) → Fits (s .plan) (sending t s bs)
+fits-sent :
+    (q t : ℕ) (s : Sight) (bs : List ℕ) → maySend q s (length bs) ≡ true → Fits (s .plan) (s .messages) →
+    Fits (s .plan) (sending t s bs)
 unfolding maySend sending
 fits-sent q t s bs may h =
     let rest = and-parts (leb (length bs) (s .plan .bytes)) (eqb (s .plan .places) 0 || ltb (length (s .messages)) (s .plan .places)) (and-parts (eqb (s .plan .from) q) _ may .1) in
@@ -57,11 +62,14 @@ module _ {C : Type 0} (M : Machine C) (p : Plan) where
   elsewhere w None q h = refl
   elsewhere w (Some k) q h = getD-set-other (w .parts) k q _ noPart (λ e. h (ap {B = Option ℕ} Some (sym e)))
 
-  pub changes-in-own : {X : Type 0} (f : Part C → X) → ((x : Part C) (bs : List ℕ) → f (withHeard x bs) ≡ f x) → (w : World C) (row : List Arrival) (q : ℕ) → turn p (w .time) ≢ Some q → f (part (tick M p w row) q) ≡ f (part w q)
+  pub changes-in-own :
+      {X : Type 0} (f : Part C → X) → ((x : Part C) (bs : List ℕ) → f (withHeard x bs) ≡ f x) → (w : World C)
+      (row : List Arrival) (q : ℕ) → turn p (w .time) ≢ Some q → f (part (tick M p w row) q) ≡ f (part w q)
   unfolding tick later part
   changes-in-own f h w row q n = ap f (elsewhere (came row w) (turn p (w .time)) q n) ∙ came-keeps f h row w q
 
-  shown-work : (w : World C) (o : Option ℕ) (q : ℕ) → turn p (w .time) ≡ o → ShownInOwn p w q → ShownInOwn p (work M p w o) q
+  shown-work :
+      (w : World C) (o : Option ℕ) (q : ℕ) → turn p (w .time) ≡ o → ShownInOwn p w q → ShownInOwn p (work M p w o) q
   unfolding work applied part
   shown-work w None q e h = h
   shown-work w (Some k) q e h =
@@ -87,7 +95,9 @@ module _ {C : Type 0} (M : Machine C) (p : Plan) where
   Fit : World C → Change → Type 0
   Fit w k = (c : ℕ) (ch : Channel) → nth (p .channels) c ≡ Some ch → Fits ch (getD (changed k (w .channels)) c [])
 
-  fit-becomes : (w : World C) (i : ℕ) (ms : List Sent) (q : ℕ) (s : Sight) → AllFit p w → seen (p .channels) q w i ≡ Some s → (Fits (s .plan) (s .messages) → Fits (s .plan) ms) → Fit w (becomes i ms)
+  fit-becomes :
+      (w : World C) (i : ℕ) (ms : List Sent) (q : ℕ) (s : Sight) → AllFit p w → seen (p .channels) q w i ≡ Some s →
+      (Fits (s .plan) (s .messages) → Fits (s .plan) ms) → Fit w (becomes i ms)
   unfolding Fit changed messages
   fit-becomes w i ms q s h see new c ch e =
       let x = seen-is (p .channels) q w i s see in
@@ -123,7 +133,9 @@ changes-in-own-ticks M p w row q n = (
   changes-in-own M p (λ x. x .shown) (λ x bs. refl) w row q n,
 )
 
-nothing-shown : {C : Type 0} (M : Machine C) (kss : List (List Task)) (ms : List (List ℕ)) (q : ℕ) → getD (newParts M kss ms) q noPart .shown ≡ []
+nothing-shown :
+    {C : Type 0} (M : Machine C) (kss : List (List Task)) (ms : List (List ℕ)) (q : ℕ) →
+    getD (newParts M kss ms) q noPart .shown ≡ []
 unfolding newParts
 nothing-shown M [] ms q = refl
 nothing-shown M (ks ∷ kss) [] zero = refl

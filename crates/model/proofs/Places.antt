@@ -38,7 +38,9 @@ module _ {X : Type 0} where
   mapped-same (Some x) = refl
 
   -- Place k when place i has changed so.
-  pub nth-changed : (f : X → X) (xs : List X) (i k : ℕ) (d : X) → nth (set xs i (f (getD xs i d))) k ≡ mapped (λ x. cond (eqb i k) (f x) x) (nth xs k)
+  pub nth-changed :
+      (f : X → X) (xs : List X) (i k : ℕ) (d : X) →
+      nth (set xs i (f (getD xs i d))) k ≡ mapped (λ x. cond (eqb i k) (f x) x) (nth xs k)
   nth-changed f [] i k d = refl
   nth-changed f (x ∷ xs) zero zero d = refl
   nth-changed f (x ∷ xs) zero (suc k) d = simp (eqb·zero-suc k) (sym (mapped-same (nth xs k)))
@@ -56,7 +58,8 @@ module _ {X : Type 0} where
   nth-set-alike xs ys i k x e = nth-set xs i k x ∙ (ap (mapped (λ y. cond (eqb i k) x y)) e ∙ sym (nth-set ys i k x))
 
   -- What holds of what is set, and of what stood there, holds after.
-  pub set-keeps : (R : X → Type 0) (xs : List X) (i k : ℕ) (x d : X) → (k ≡ i → R x) → R (getD xs k d) → R (getD (set xs i x) k d)
+  pub set-keeps :
+      (R : X → Type 0) (xs : List X) (i k : ℕ) (x d : X) → (k ≡ i → R x) → R (getD xs k d) → R (getD (set xs i x) k d)
   set-keeps R xs i k x d new old = go (cases-eq k i) (cases-lt i (length xs))
     where
       go : (k ≡ i) ⊎ (k ≡ i → ⊥) → (i < length xs) ⊎ (length xs ≤ i) → R (getD (set xs i x) k d)
@@ -64,7 +67,8 @@ module _ {X : Type 0} where
       go (inl e) (inr h) = subst (λ l. R (getD l k d)) (sym (set-past xs i x h)) old
       go (inr a) _ = subst R (sym (getD-set-other xs i k x d a)) old
 
-  pub nth-replicate : {Y : Type 0} (ys : List Y) (k : ℕ) (x : X) → nth (replicate (length ys) x) k ≡ mapped (λ _. x) (nth ys k)
+  pub nth-replicate :
+      {Y : Type 0} (ys : List Y) (k : ℕ) (x : X) → nth (replicate (length ys) x) k ≡ mapped (λ _. x) (nth ys k)
   nth-replicate [] k x = refl
   nth-replicate (y ∷ ys) zero x = refl
   nth-replicate (y ∷ ys) (suc k) x = nth-replicate ys k x
@@ -74,6 +78,7 @@ module _ {X : Type 0} where
   getD-replicate-same (suc n) zero x = refl
   getD-replicate-same (suc n) (suc k) x = getD-replicate-same n k x
 
-pub mapped-mapped : {X Y Z : Type 0} (g : Y → Z) (f : X → Y) (o : Option X) → mapped g (mapped f o) ≡ mapped (λ x. g (f x)) o
+pub mapped-mapped :
+    {X Y Z : Type 0} (g : Y → Z) (f : X → Y) (o : Option X) → mapped g (mapped f o) ≡ mapped (λ x. g (f x)) o
 mapped-mapped g f None = refl
 mapped-mapped g f (Some x) = refl

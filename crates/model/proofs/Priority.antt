@@ -36,7 +36,9 @@ moved i k = omega arith
 
 module _ {C : Type 0} (ks : List Task) where
   -- One behind goes first where the one in front, if it is ready, has a lower priority.
-  behind : (i : ℕ) (r : Run C) (rs : List (Run C)) (j : ℕ) → FirstFrom ks (suc i) rs j → (r .state ≡ Ready → priorityOf ks i < priorityOf ks j) → FirstFrom ks i (r ∷ rs) j
+  behind :
+      (i : ℕ) (r : Run C) (rs : List (Run C)) (j : ℕ) → FirstFrom ks (suc i) rs j →
+      (r .state ≡ Ready → priorityOf ks i < priorityOf ks j) → FirstFrom ks i (r ∷ rs) j
   behind i r rs j f h = record {
     place = suc (f .place);
     is = f .is ∙ omega arith;
@@ -46,12 +48,16 @@ module _ {C : Type 0} (ks : List Task) where
   }
 
   -- A task that is not ready in front changes nothing.
-  not-ready : (i : ℕ) (r : Run C) (rs : List (Run C)) → (r .state ≡ Ready → ⊥) → (o : Option ℕ) → Found ks (suc i) rs o → Found ks i (r ∷ rs) o
+  not-ready :
+      (i : ℕ) (r : Run C) (rs : List (Run C)) → (r .state ≡ Ready → ⊥) → (o : Option ℕ) → Found ks (suc i) rs o →
+      Found ks i (r ∷ rs) o
   not-ready i r rs h None f = elim [ zero ↦ λ e. h (cc) | suc k ↦ λ e. f k e ]
   not-ready i r rs h (Some j) f = behind i r rs j f (λ e. absurd (h e))
 
   -- One that is ready goes first unless one behind it has a higher priority.
-  is-ready : (i : ℕ) (r : Run C) (rs : List (Run C)) → r .state ≡ Ready → (o : Option ℕ) → Found ks (suc i) rs o → Found ks i (r ∷ rs) (better ks i true o)
+  is-ready :
+      (i : ℕ) (r : Run C) (rs : List (Run C)) → r .state ≡ Ready → (o : Option ℕ) → Found ks (suc i) rs o →
+      Found ks i (r ∷ rs) (better ks i true o)
   unfolding better
   is-ready i r rs h None f = record {
     place = 0;
@@ -79,7 +85,9 @@ module _ {C : Type 0} (ks : List Task) where
   found [] i = λ k e. let z : _≡_ {A = ℕ} 0 1 = cc in omega arith
   found (r ∷ rs) i = go (r .state) refl (found rs (suc i))
     where
-      go : (s : State) → r .state ≡ s → Found ks (suc i) rs (firstReady ks (suc i) rs) → Found ks i (r ∷ rs) (better ks i (isReady s) (firstReady ks (suc i) rs))
+      go :
+          (s : State) → r .state ≡ s → Found ks (suc i) rs (firstReady ks (suc i) rs) →
+          Found ks i (r ∷ rs) (better ks i (isReady s) (firstReady ks (suc i) rs))
       go Ready e f = is-ready i r rs e (firstReady ks (suc i) rs) f
       go Waiting e f = not-ready i r rs (λ h. let z : _≡_ {A = ℕ} 0 1 = cc in omega arith) (firstReady ks (suc i) rs) f
       go Stopped e f = not-ready i r rs (λ h. let z : _≡_ {A = ℕ} 0 1 = cc in omega arith) (firstReady ks (suc i) rs) f

@@ -12,13 +12,15 @@ use Rattle.std.specs.shelf.Maps.{nth}
 use Rattle.std.specs.Options.{mapped, valueOr}
 use Rattle.std.specs.declared.option.Option.{Option}
 use Rattle.std.specs.declared.option.Option.the-variants.{Some, None}
-use Rattle.std.proofs.shelf.Tests.{both-ways, cases-bool, eqb-true, eqb-false, cond-both, or-cases, or-left, or-right, and-parts, cond-true, cond-false, ne-eqb}
+use Rattle.std.proofs.shelf.Tests.{both-ways, cases-bool, eqb-true, eqb-false, cond-both, or-cases, or-left, or-right}
+use Rattle.std.proofs.shelf.Tests.{and-parts, cond-true, cond-false, ne-eqb}
 use Rattle.cpu.specs.Act.{Machine}
 use Rattle.model.specs.declared.plan.Channel.{Channel}
 use Rattle.model.specs.declared.plan.Task.{Task}
 use Rattle.model.specs.declared.plan.Arrival.{Arrival}
 use Rattle.model.specs.World.{Plan, Part, Sent, World, noPart, part, messages, channel, turn}
-use Rattle.model.specs.Tick.{Change, none, becomes, Step, Sight, maySend, sending, taking, changed, partTick, seen, applied, hearing, came, later, work, tick, ticks, newRuns, newParts, begin}
+use Rattle.model.specs.Tick.{Change, none, becomes, Step, Sight, maySend, sending, taking, changed, partTick, seen, applied}
+use Rattle.model.specs.Tick.{hearing, came, later, work, tick, ticks, newRuns, newParts, begin}
 use Rattle.model.specs.Promise.{touches, SameChannels, SameTurns, Closed, Alike, only, Agree, TickSeparates, Separates}
 use Rattle.model.proofs.Places.{getD-nth, getD-alike, nth-set-other, nth-set-alike, nth-replicate, mapped-same}
 use Rattle.model.proofs.Steps.{partTick-holds, sight, seen-sight, seen-is, hears, came-time, came-channels, came-part}
@@ -29,12 +31,16 @@ mine A None = false
 mine A (Some q) = A q
 
 -- The arrivals that partition q hears are the same whether or not those for others, outside the set, are there.
-hears-only : {C : Type 0} (A : ℕ → Bool) (q : ℕ) → A q ≡ true → (row : List Arrival) (x : Part C) → hears q row x ≡ hears q (only A row) x
+hears-only :
+    {C : Type 0} (A : ℕ → Bool) (q : ℕ) → A q ≡ true → (row : List Arrival) (x : Part C) →
+    hears q row x ≡ hears q (only A row) x
 unfolding hears
 hears-only A q a [] x = refl
 hears-only {C} A q a (b ∷ row) x = go (A (b .partition)) refl (λ y. hears-only A q a row y)
   where
-    go : (d : Bool) → A (b .partition) ≡ d → ((y : Part C) → hears q row y ≡ hears q (only A row) y) → hears q row (cond (eqb (b .partition) q) (hearing (b .byte) x) x) ≡ hears q (cond d (b ∷ only A row) (only A row)) x
+    go :
+        (d : Bool) → A (b .partition) ≡ d → ((y : Part C) → hears q row y ≡ hears q (only A row) y) →
+        hears q row (cond (eqb (b .partition) q) (hearing (b .byte) x) x) ≡ hears q (cond d (b ∷ only A row) (only A row)) x
     go true e rest = rest (cond (eqb (b .partition) q) (hearing (b .byte) x) x)
     go false e rest = rw (ne-eqb (b .partition) q (λ z. both-ways (A q) (ap A (sym z) ∙ e) a)) (rest x)
 
@@ -48,13 +54,16 @@ flipped true false e = e
 flipped false true e = e
 flipped false false e = e
 
-changed-alike : (k : Change) (cs ds : List (List Sent)) (c : ℕ) → nth cs c ≡ nth ds c → nth (changed k cs) c ≡ nth (changed k ds) c
+changed-alike :
+    (k : Change) (cs ds : List (List Sent)) (c : ℕ) → nth cs c ≡ nth ds c → nth (changed k cs) c ≡ nth (changed k ds) c
 unfolding changed
 changed-alike none cs ds c e = e
 changed-alike (becomes i ms) cs ds c e = nth-set-alike cs ds i c ms e
 
 -- An end of partition q, which is of the set, touches the set.
-ends : (A : ℕ → Bool) (q : ℕ) → A q ≡ true → (o : Option Channel) → ((ms : List Sent) → sight q o ms ≡ None) ⊎ ((ch : Channel) × (o ≡ Some ch) × (touches A ch ≡ true))
+ends :
+    (A : ℕ → Bool) (q : ℕ) → A q ≡ true → (o : Option Channel) → ((ms : List Sent) → sight q o ms ≡ None) ⊎
+    ((ch : Channel) × (o ≡ Some ch) × (touches A ch ≡ true))
 ends A q a None = inl (λ ms. refl)
 ends A q a (Some ch) = go (cases-bool (eqb (ch .from) q || eqb (ch .to) q))
   where
@@ -62,7 +71,9 @@ ends A q a (Some ch) = go (cases-bool (eqb (ch .from) q || eqb (ch .to) q))
     end (inl e) = or-left (A (ch .from)) (A (ch .to)) (ap A (eqb-true _ _ e) ∙ a)
     end (inr e) = or-right (A (ch .from)) (A (ch .to)) (ap A (eqb-true _ _ e) ∙ a)
 
-    go : ((eqb (ch .from) q || eqb (ch .to) q) ≡ true) ⊎ ((eqb (ch .from) q || eqb (ch .to) q) ≡ false) → ((ms : List Sent) → sight q (Some ch) ms ≡ None) ⊎ ((k : Channel) × (Some ch ≡ Some k) × (touches A k ≡ true))
+    go :
+        ((eqb (ch .from) q || eqb (ch .to) q) ≡ true) ⊎ ((eqb (ch .from) q || eqb (ch .to) q) ≡ false) →
+        ((ms : List Sent) → sight q (Some ch) ms ≡ None) ⊎ ((k : Channel) × (Some ch ≡ Some k) × (touches A k ≡ true))
     go (inl e) = inr (ch, refl, end (or-cases _ _ e))
     go (inr e) = inl (λ ms. cond-false _ _ _ e)
 
@@ -86,23 +97,30 @@ module _ {C : Type 0} (M : Machine C) (A : ℕ → Bool) (p : Plan) (shut : Clos
   unfolding Still changed
   still-none c ch e a = refl
 
-  still-becomes : (i : ℕ) (ms : List Sent) → ((ch : Channel) → nth (p .channels) i ≡ Some ch → touches A ch ≡ true → ⊥) → Still (becomes i ms)
+  still-becomes :
+      (i : ℕ) (ms : List Sent) → ((ch : Channel) → nth (p .channels) i ≡ Some ch → touches A ch ≡ true → ⊥) →
+      Still (becomes i ms)
   unfolding Still changed
   still-becomes i ms never c ch e a = nth-set-other (w .channels) i c ms (λ z. never ch (ap (nth (p .channels)) z ∙ e) a)
 
   module _ (q : ℕ) (not : A q ≡ false) where
     -- the same channel, by its plan
-    plan-is : (i : ℕ) (s : Sight) (ch : Channel) → seen (p .channels) q w i ≡ Some s → nth (p .channels) i ≡ Some ch → s .plan ≡ ch
+    plan-is :
+        (i : ℕ) (s : Sight) (ch : Channel) → seen (p .channels) q w i ≡ Some s → nth (p .channels) i ≡ Some ch →
+        s .plan ≡ ch
     plan-is i s ch see e = let x : nth (p .channels) i ≡ Some (s .plan) = seen-is (p .channels) q w i s see .0 in cc
 
-    still-sent : (i : ℕ) (s : Sight) (bs : List ℕ) → seen (p .channels) q w i ≡ Some s → maySend q s (length bs) ≡ true → Still (becomes i (sending (w .time) s bs))
+    still-sent :
+        (i : ℕ) (s : Sight) (bs : List ℕ) → seen (p .channels) q w i ≡ Some s → maySend q s (length bs) ≡ true →
+        Still (becomes i (sending (w .time) s bs))
     unfolding maySend
     still-sent i s bs see may = still-becomes i _ (λ ch e a.
         let from : A (ch .from) ≡ false = ap A (ap (λ k. k .from) (sym (plan-is i s ch see e)) ∙ eqb-true _ _ (and-parts _ _ may .0)) ∙ not in
         let to : A (ch .to) ≡ true = one-of-two (A (ch .from)) (A (ch .to)) a (λ z. both-ways (A (ch .from)) from z) in
         both-ways (A (ch .from)) from (shut .into i ch e to))
 
-    still-took : (i : ℕ) (s : Sight) (ms : List Sent) → seen (p .channels) q w i ≡ Some s → s .plan .to ≡ q → Still (taking i s ms)
+    still-took :
+        (i : ℕ) (s : Sight) (ms : List Sent) → seen (p .channels) q w i ≡ Some s → s .plan .to ≡ q → Still (taking i s ms)
     unfolding taking
     still-took i s ms see to =
         cond-both {A = Change} (eqb (s .plan .places) 0) _ _ Still (λ _. still-none) (λ n. still-becomes i ms (λ ch e a.
@@ -126,7 +144,9 @@ module _ {C : Type 0} (M : Machine C) (A : ℕ → Bool) (p : Plan) (shut : Clos
 
 module _ {C : Type 0} (M : Machine C) (A : ℕ → Bool) (p r : Plan) (alike : Alike A p r) where
   -- Bytes from outside.
-  came-agrees : (w v : World C) (row other : List Arrival) → only A row ≡ only A other → Agree A p w v → Agree A p (came row w) (came other v)
+  came-agrees :
+      (w v : World C) (row other : List Arrival) → only A row ≡ only A other → Agree A p w v →
+      Agree A p (came row w) (came other v)
   came-agrees w v row other e g = record {
     time = came-time row w ∙ (g .time ∙ sym (came-time other v));
     parts = λ q a.
@@ -138,7 +158,8 @@ module _ {C : Type 0} (M : Machine C) (A : ℕ → Bool) (p r : Plan) (alike : A
   }
 
   -- A partition of the set sees the same.
-  sees-alike : (w v : World C) (q : ℕ) → A q ≡ true → Agree A p w v → (c : ℕ) → seen (p .channels) q w c ≡ seen (r .channels) q v c
+  sees-alike :
+      (w v : World C) (q : ℕ) → A q ≡ true → Agree A p w v → (c : ℕ) → seen (p .channels) q w c ≡ seen (r .channels) q v c
   unfolding messages
   sees-alike w v q a g c = seen-sight (p .channels) q w c ∙ (go (ends A q a (nth (p .channels) c)) (ends A q a (nth (r .channels) c)) ∙ sym (seen-sight (r .channels) q v c))
     where
@@ -185,21 +206,27 @@ module _ {C : Type 0} (M : Machine C) (A : ℕ → Bool) (p r : Plan) (alike : A
       same x y None s e h = absurd (both-ways false refl h)
       same x y (Some q) s e h = s q t h e
 
-      go : (b d : Bool) → mine A (turn p t) ≡ b → mine A (turn r t) ≡ d → Agree A p (work M p w (turn p t)) (work M r v (turn r t))
+      go :
+          (b d : Bool) → mine A (turn p t) ≡ b → mine A (turn r t) ≡ d →
+          Agree A p (work M p w (turn p t)) (work M r v (turn r t))
       go true d e f = subst (λ o. Agree A p (work M p w (turn p t)) (work M r v o)) (sym (same p r (turn p t) (alike .turns .0) refl e)) (mine-agrees w v (turn p t) e g)
       go false true e f = absurd (both-ways (mine A (turn p t)) e (ap (mine A) (same r p (turn r t) (alike .turns .1) refl f) ∙ f))
       go false false e f =
           agree-trans A p _ _ _ (others-agree M A p (alike .closed .0) w (turn p t) e)
           (agree-trans A p _ _ _ g (agree-sym A p _ _ (agree-for A p r _ _ (alike .channels .0) (others-agree M A r (alike .closed .1) v (turn r t) f))))
 
-  tick-agrees : (w v : World C) (row other : List Arrival) → only A row ≡ only A other → Agree A p w v → Agree A p (tick M p w row) (tick M r v other)
+  tick-agrees :
+      (w v : World C) (row other : List Arrival) → only A row ≡ only A other → Agree A p w v →
+      Agree A p (tick M p w row) (tick M r v other)
   unfolding tick later
   tick-agrees w v row other e g =
       let x : Agree A p (work M p (came row w) (turn p (w .time))) (work M r (came other v) (turn r (v .time))) =
       subst (λ t. Agree A p (work M p (came row w) (turn p (w .time))) (work M r (came other v) (turn r t))) (g .time) (work-agrees (came row w) (came other v) (w .time) (came-agrees w v row other e g)) in
       record { time = ap suc (x .time); parts = x .parts; channels = x .channels }
 
-  ticks-agree : (rows others : List (List Arrival)) (w v : World C) → map (only A) rows ≡ map (only A) others → Agree A p w v → Agree A p (ticks M p w rows) (ticks M r v others)
+  ticks-agree :
+      (rows others : List (List Arrival)) (w v : World C) → map (only A) rows ≡ map (only A) others → Agree A p w v →
+      Agree A p (ticks M p w rows) (ticks M r v others)
   unfolding ticks
   ticks-agree [] [] w v e g = g
   ticks-agree [] (c ∷ cs) w v e g = let z : _≡_ {A = ℕ} 0 1 = cc in absurd (omega arith)
@@ -209,7 +236,9 @@ module _ {C : Type 0} (M : Machine C) (A : ℕ → Bool) (p r : Plan) (alike : A
       let y : map (only A) bs ≡ map (only A) cs = cc in
       ticks-agree bs cs (tick M p w b) (tick M r v c) y (tick-agrees w v b c x g)
 
-newParts-nth : {C : Type 0} (M : Machine C) (kss : List (List Task)) (ms : List (List ℕ)) (q : ℕ) → nth (newParts M kss ms) q ≡ mapped (λ ks. record { memory = getD ms q []; tasks = newRuns M 0 ks; heard = []; shown = [] }) (nth kss q)
+newParts-nth :
+    {C : Type 0} (M : Machine C) (kss : List (List Task)) (ms : List (List ℕ)) (q : ℕ) →
+    nth (newParts M kss ms) q ≡ mapped (λ ks. record { memory = getD ms q []; tasks = newRuns M 0 ks; heard = []; shown = [] }) (nth kss q)
 unfolding newParts
 newParts-nth M [] ms q = refl
 newParts-nth M (ks ∷ kss) [] zero = refl

@@ -2,3 +2,4 @@ pub mod World
 pub mod Tick
 pub mod Whole
 pub mod Promise
+pub mod Samples

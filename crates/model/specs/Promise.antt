@@ -39,7 +39,8 @@ SameTurns A p r = (q t : ℕ) → A q ≡ true → turn p t ≡ Some q → turn 
 -- from the set is to the set or has no places, so that its sender never learns whether a message was taken.
 pub record Closed (A : ℕ → Bool) (p : Plan) : Type 0 where
   pub into : (c : ℕ) (ch : Channel) → nth (p .channels) c ≡ Some ch → A (ch .to) ≡ true → A (ch .from) ≡ true
-  pub back : (c : ℕ) (ch : Channel) → nth (p .channels) c ≡ Some ch → A (ch .from) ≡ true → (A (ch .to) ≡ true) ⊎ (ch .places ≡ 0)
+  pub back :
+      (c : ℕ) (ch : Channel) → nth (p .channels) c ≡ Some ch → A (ch .from) ≡ true → (A (ch .to) ≡ true) ⊎ (ch .places ≡ 0)
 
 -- Two plans are alike for the set: the same ticks are its partitions', their tasks are the same, and so are the channels
 -- that touch it. All else may differ: the others' number, tasks and windows, and the channels among them.
@@ -57,7 +58,9 @@ only A row = kept-by (λ a. A (a .partition)) row
 pub record Agree {C : Type 0} (A : ℕ → Bool) (p : Plan) (w v : World C) : Type 0 where
   pub time : w .time ≡ v .time
   pub parts : (q : ℕ) → A q ≡ true → nth (w .parts) q ≡ nth (v .parts) q
-  pub channels : (c : ℕ) (ch : Channel) → nth (p .channels) c ≡ Some ch → touches A ch ≡ true → nth (w .channels) c ≡ nth (v .channels) c
+  pub channels :
+      (c : ℕ) (ch : Channel) → nth (p .channels) c ≡ Some ch → touches A ch ≡ true →
+      nth (w .channels) c ≡ nth (v .channels) c
 
 -- WHAT A CHANNEL HOLDS: no more messages than it has places, or one if it has none, and none longer than it allows.
 pub record Fits (ch : Channel) (ms : List Sent) : Type 0 where

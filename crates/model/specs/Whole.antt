@@ -18,7 +18,8 @@ use Rattle.cpu.specs.declared.call.Answer.the-variants.{Value, Message}
 use Rattle.model.specs.declared.plan.Arrival.{Arrival}
 use Rattle.model.specs.declared.plan.State.the-variants.{Ready, Waiting, Stopped}
 use Rattle.model.specs.World.{Plan, Run, Part, Sent, World, part, messages, channel, turn}
-use Rattle.model.specs.Tick.{no, mostUnheard, firstHeard, withTasks, withMemory, withHeard, showing, firstReady, looked, later}
+use Rattle.model.specs.Tick.{no, mostUnheard, firstHeard, withTasks, withMemory, withHeard, showing, firstReady, looked}
+use Rattle.model.specs.Tick.{later}
 
 module _ {C : Type 0} where
   -- The world with another part, with other messages in a channel.
