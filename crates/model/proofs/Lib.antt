@@ -4,3 +4,4 @@ pub mod Separation
 pub mod Own
 pub mod Priority
 pub mod Same
+pub mod Computed

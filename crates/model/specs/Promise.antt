@@ -35,20 +35,31 @@ SameChannels A p r = (c : ℕ) (ch : Channel) → nth (p .channels) c ≡ Some c
 abbrev pub SameTurns : (ℕ → Bool) → Plan → Plan → Type 0
 SameTurns A p r = (q t : ℕ) → A q ≡ true → turn p t ≡ Some q → turn r t ≡ Some q
 
--- Nothing comes into the set from outside it, and nothing comes back: a channel to the set is from the set, and a channel
--- from the set is to the set or has no places, so that its sender never learns whether a message was taken.
-pub record Closed (A : ℕ → Bool) (p : Plan) : Type 0 where
-  pub into : (c : ℕ) (ch : Channel) → nth (p .channels) c ≡ Some ch → A (ch .to) ≡ true → A (ch .from) ≡ true
-  pub back :
-      (c : ℕ) (ch : Channel) → nth (p .channels) c ≡ Some ch → A (ch .from) ≡ true → (A (ch .to) ≡ true) ⊎ (ch .places ≡ 0)
+-- Nothing comes into the set from outside it: a channel to the set is from the set.
+abbrev pub NoneInto : (ℕ → Bool) → Plan → Type 0
+NoneInto A p = (c : ℕ) (ch : Channel) → nth (p .channels) c ≡ Some ch → A (ch .to) ≡ true → A (ch .from) ≡ true
 
--- Two plans are alike for the set: the same ticks are its partitions', their tasks are the same, and so are the channels
--- that touch it. All else may differ: the others' number, tasks and windows, and the channels among them.
-pub record Alike (A : ℕ → Bool) (p r : Plan) : Type 0 where
-  pub closed : Closed A p × Closed A r
+-- Nothing comes back: a channel from the set is to the set or has no places, so that its sender never learns whether a
+-- message was taken.
+abbrev pub NoneBack : (ℕ → Bool) → Plan → Type 0
+NoneBack A p =
+    (c : ℕ) (ch : Channel) → nth (p .channels) c ≡ Some ch → A (ch .from) ≡ true → (A (ch .to) ≡ true) ⊎ (ch .places ≡ 0)
+
+pub record Closed (A : ℕ → Bool) (p : Plan) : Type 0 where
+  pub into : NoneInto A p
+  pub back : NoneBack A p
+
+-- Two plans are alike for the set, which is shut off in both: the same ticks are its partitions', their tasks are the same,
+-- and so are the channels that touch it. All else may differ: the others' number, tasks and windows, and the channels
+-- among them.
+pub record AlikeUnder (Shut : (ℕ → Bool) → Plan → Type 0) (A : ℕ → Bool) (p r : Plan) : Type 0 where
+  pub closed : Shut A p × Shut A r
   pub turns : SameTurns A p r × SameTurns A r p
   pub channels : SameChannels A p r × SameChannels A r p
   pub tasks : (q : ℕ) → A q ≡ true → nth (p .tasks) q ≡ nth (r .tasks) q
+
+abbrev pub Alike : (ℕ → Bool) → Plan → Plan → Type 0
+Alike = AlikeUnder Closed
 
 -- The arrivals for partitions of the set.
 abbrev pub only : (ℕ → Bool) → List Arrival → List Arrival
@@ -89,7 +100,9 @@ pub record GoesFirst {C : Type 0} (ks : List Task) (rs : List (Run C)) (j : ℕ)
 
 -- The task that firstReady names goes first; if it names none, none is ready.
 abbrev pub FirstReady : Type 0 → Type 0
-FirstReady C = (ks : List Task) (rs : List (Run C)) → Cases (firstReady ks 0 rs) ((k : ℕ) → ReadyAt rs k → ⊥) (λ j. GoesFirst ks rs j)
+FirstReady C =
+    (ks : List Task) (rs : List (Run C)) →
+    Cases (firstReady ks 0 rs) ((k : ℕ) → ReadyAt rs k → ⊥) (λ j. GoesFirst ks rs j)
 
 module _ {C : Type 0} (M : Machine C) where
   -- One tick: worlds that agree on the set, under plans that are alike for it and with the same arrivals for it, agree on
@@ -101,11 +114,20 @@ module _ {C : Type 0} (M : Machine C) where
 
   -- A whole run from the beginning: with equal memories in the set and the same arrivals for it, tick by tick, each of its
   -- partitions is the same in both: memory, tasks, unheard bytes and what it has shown.
-  abbrev pub Separates : Type 0
-  Separates =
-      (A : ℕ → Bool) (p r : Plan) (ms ns : List (List ℕ)) (rows others : List (List Arrival)) (q : ℕ) → Alike A p r →
-      ((k : ℕ) → A k ≡ true → getD ms k [] ≡ getD ns k []) → map (only A) rows ≡ map (only A) others → A q ≡ true →
+  abbrev pub SeparatesUnder : ((ℕ → Bool) → Plan → Type 0) → Type 0
+  SeparatesUnder Shut =
+      (A : ℕ → Bool) (p r : Plan) (ms ns : List (List ℕ)) (rows others : List (List Arrival)) (q : ℕ) →
+      AlikeUnder Shut A p r → ((k : ℕ) → A k ≡ true → getD ms k [] ≡ getD ns k []) →
+      map (only A) rows ≡ map (only A) others → A q ≡ true →
       part (ticks M p (begin M p ms) rows) q ≡ part (ticks M r (begin M r ns) others) q
+
+  -- It holds of a closed set.
+  abbrev pub Separates : Type 0
+  Separates = SeparatesUnder Closed
+
+  -- It does not hold of every set into which nothing comes: what comes back tells the sender.
+  abbrev pub BackIsNeeded : Type 0
+  BackIsNeeded = SeparatesUnder NoneInto → ⊥
 
   -- A tick keeps it that each byte was shown in an own tick, and so a run from the beginning has it.
   abbrev pub ShowsInOwnTicks : Type 0

@@ -52,6 +52,13 @@ takesAndWaits =
     0x93 ∷ 0x08 ∷ 0x40 ∷ 0x00 ∷ 0x93 ∷ 0x05 ∷ 0x40 ∷ 0x01 ∷ 0x73 ∷ 0x00 ∷ 0x00 ∷ 0x00 ∷ 0x93 ∷ 0x08 ∷ 0x10 ∷ 0x00
     ∷ 0x73 ∷ 0x00 ∷ 0x00 ∷ 0x00 ∷ 0x00 ∷ 0x00 ∷ 0x00 ∷ 0x00 ∷ []
 
+-- Channel 0 is from partition 0 to partition 1, and has so many places. Each partition is one task with a period of 150
+-- ticks.
+abbrev pub telling : ℕ → Plan
+telling places =
+    let k : Task = record { priority = 1; period = 150; deadline = 150; lates = 0 } in
+    sharing 16 100 50 (record { from = 0; to = 1; bytes = 4; places = places } ∷ []) ((k ∷ []) ∷ (k ∷ []) ∷ [])
+
 module _ {C : Type 0} (M : Machine C) where
   -- The world after 0, 1, 2 and so on to n ticks, with no bytes from outside.
   unfoldable pub history : Plan → ℕ → World C → List (World C)
@@ -70,12 +77,10 @@ module _ {C : Type 0} (M : Machine C) where
       map standing (history p 240 (begin M p (roundForEver ∷ [] ∷ []))) ≡ table
 
   -- What the sender, partition 0, has shown after 300 ticks, where channel 0 goes to partition 1 and has so many places, and
-  -- partition 1 runs this program. Each is one task with a period of 150 ticks.
+  -- partition 1 runs this program.
   abbrev pub senderShows : ℕ → List ℕ → List (ℕ × ℕ)
   senderShows places receiver =
-      let k : Task = record { priority = 1; period = 150; deadline = 150; lates = 0 } in
-      let p : Plan = sharing 16 100 50 (record { from = 0; to = 1; bytes = 4; places = places } ∷ []) ((k ∷ []) ∷ (k ∷ []) ∷ []) in
-      part (ticks M p (begin M p (sendsAndShows ∷ receiver ∷ [])) (replicate 300 [])) 0 .shown
+      part (ticks M (telling places) (begin M (telling places) (sendsAndShows ∷ receiver ∷ [])) (replicate 300 [])) 0 .shown
 
   -- What the sender shows where the receiver takes each message, and where it takes none.
   abbrev pub SenderShows : ℕ → List (ℕ × ℕ) → List (ℕ × ℕ) → Type 0

@@ -1,7 +1,8 @@
 //! What is promised of the abstract computer, over every kind of core: each function's contract is one statement, and
 //! its proof is the proof of that statement.
 ghost use Rattle.cpu.specs.Act.{Machine};
-ghost use Rattle.model.specs.Promise.{TickSeparates, Separates, ShowsInOwnTicks, ChangesInOwnTicks, ChannelsFit, FirstReady, WholeIsSame};
+ghost use Rattle.model.specs.Promise.{Closed, TickSeparates, SeparatesUnder, ShowsInOwnTicks, ChangesInOwnTicks, ChannelsFit};
+ghost use Rattle.model.specs.Promise.{FirstReady, WholeIsSame};
 
 /// From any state on: worlds that agree on a closed set of partitions agree on it after a tick, whatever the others are.
 pub fn tick_separates_stands<C>() -> u8
@@ -12,7 +13,7 @@ pub fn tick_separates_stands<C>() -> u8
 
 /// Over a whole run: each partition of a closed set is the same, whatever the others are.
 pub fn separates_stands<C>() -> u8
-    ensures { λ _. ⌜ ((M : Machine C) → Separates M) ⌝ }
+    ensures { λ _. ⌜ ((M : Machine C) → SeparatesUnder M Closed) ⌝ }
 {
     0
 }
