@@ -1,7 +1,7 @@
 //! What is promised of the abstract computer, over every kind of core: each function's contract is one statement, and
 //! its proof is the proof of that statement.
 ghost use Rattle.cpu.specs.Act.{Machine};
-ghost use Rattle.model.specs.Promise.{Closed, TickSeparates, SeparatesUnder, ShowsInOwnTicks, ChangesInOwnTicks, ChannelsFit};
+ghost use Rattle.model.specs.Promise.{Closed, NoneInto, TickSeparates, SeparatesUnder, ShowsInOwnTicks, ChangesInOwnTicks, ChannelsFit};
 ghost use Rattle.model.specs.Promise.{FirstReady, WholeIsSame};
 
 /// From any state on: worlds that agree on a closed set of partitions agree on it after a tick, whatever the others are.
