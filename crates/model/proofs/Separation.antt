@@ -21,7 +21,7 @@ use Rattle.model.specs.declared.plan.Arrival.{Arrival}
 use Rattle.model.specs.World.{Plan, Part, Sent, World, noPart, part, messages, channel, turn}
 use Rattle.model.specs.Tick.{Change, none, becomes, Step, Sight, maySend, sending, taking, changed, partTick, seen, applied}
 use Rattle.model.specs.Tick.{hearing, came, later, work, tick, ticks, newRuns, newParts, begin}
-use Rattle.model.specs.Promise.{touches, SameChannels, SameTurns, Closed, Alike, only, Agree, TickSeparates, Separates}
+use Rattle.model.specs.Promise.{touches, SameChannels, SameTurns, Closed, Alike, only, Agree, TickSeparates, RunSeparates, Separates}
 use Rattle.model.proofs.Places.{getD-nth, getD-alike, nth-set-other, nth-set-alike, nth-replicate, mapped-same}
 use Rattle.model.proofs.Steps.{partTick-holds, sight, seen-sight, seen-is, hears, came-time, came-channels, came-part}
 
@@ -248,6 +248,9 @@ newParts-nth M (ks ∷ kss) (m ∷ ms) (suc q) = newParts-nth M kss ms q
 
 pub tick-separates : {C : Type 0} (M : Machine C) → TickSeparates M
 tick-separates M A p r w v row other alike e g = tick-agrees M A p r alike w v row other e g
+
+pub run-separates : {C : Type 0} (M : Machine C) → RunSeparates M
+run-separates M A p r w v rows others alike e g = ticks-agree M A p r alike rows others w v e g
 
 pub separates : {C : Type 0} (M : Machine C) → Separates M
 unfolding begin part

@@ -2,22 +2,23 @@
 -- these are definitions.
 use mathlib.Core.Path.{_≡_}
 use mathlib.Core.Logic.{_≢_, _⊎_}
-use mathlib.Core.Bool.{Bool, true, false, _||_}
+use mathlib.Core.Bool.{Bool, true, cond, _||_}
 use mathlib.Core.List.{List, [], _∷_, map}
-use Prim.Native.Nat.{ℕ, max, _≤_, _<_}
-use lib.ListN.{length, getD}
+use Prim.Native.Nat.{ℕ, max, _+_, _*_, _≤_, _<_}
+use lib.Dec.{ltb}
+use lib.ListN.{length, getD, take}
 use Rattle.std.specs.shelf.Lists.{All, kept-by}
 use Rattle.std.specs.shelf.Maps.{nth}
 use Rattle.std.specs.Options.{Cases}
 use Rattle.std.specs.declared.option.Option.{Option}
 use Rattle.std.specs.declared.option.Option.the-variants.{Some, None}
 use Rattle.cpu.specs.Act.{Machine}
+use Rattle.model.specs.declared.plan.Window.{Window}
 use Rattle.model.specs.declared.plan.Channel.{Channel}
 use Rattle.model.specs.declared.plan.Task.{Task}
 use Rattle.model.specs.declared.plan.Arrival.{Arrival}
-use Rattle.model.specs.declared.plan.State.{State}
 use Rattle.model.specs.declared.plan.State.the-variants.{Ready}
-use Rattle.model.specs.World.{Plan, Run, Part, Sent, World, noTask, part, messages, turn}
+use Rattle.model.specs.World.{Plan, Run, Sent, World, noTask, part, messages, round, turn}
 use Rattle.model.specs.Tick.{firstReady, tick, ticks, begin}
 use Rattle.model.specs.Whole.{wholeTick}
 
@@ -104,6 +105,13 @@ FirstReady C =
     (ks : List Task) (rs : List (Run C)) →
     Cases (firstReady ks 0 rs) ((k : ℕ) → ReadyAt rs k → ⊥) (λ j. GoesFirst ks rs j)
 
+-- WHOSE TICK IT IS. In every round, number n, tick j of window k is nobody's if j is one of the system's ticks, and else
+-- the tick of the window's partition.
+abbrev pub TurnsByWindow : Type 0
+TurnsByWindow =
+    (p : Plan) (n k j : ℕ) (w : Window) → nth (p .windows) k ≡ Some w → j < w .ticks →
+    turn p (n * round (p .windows) + (round (take k (p .windows)) + j)) ≡ cond (ltb j (p .system)) None (Some (w .partition))
+
 module _ {C : Type 0} (M : Machine C) where
   -- One tick: worlds that agree on the set, under plans that are alike for it and with the same arrivals for it, agree on
   -- the set after a tick each.
@@ -111,6 +119,12 @@ module _ {C : Type 0} (M : Machine C) where
   TickSeparates =
       (A : ℕ → Bool) (p r : Plan) (w v : World C) (row other : List Arrival) → Alike A p r → only A row ≡ only A other →
       Agree A p w v → Agree A p (tick M p w row) (tick M r v other)
+
+  -- Many ticks: the same, with the same arrivals for the set in each.
+  abbrev pub RunSeparates : Type 0
+  RunSeparates =
+      (A : ℕ → Bool) (p r : Plan) (w v : World C) (rows others : List (List Arrival)) → Alike A p r →
+      map (only A) rows ≡ map (only A) others → Agree A p w v → Agree A p (ticks M p w rows) (ticks M r v others)
 
   -- A whole run from the beginning: with equal memories in the set and the same arrivals for it, tick by tick, each of its
   -- partitions is the same in both: memory, tasks, unheard bytes and what it has shown.

@@ -2,7 +2,7 @@
 //! its proof is the proof of that statement.
 ghost use Rattle.cpu.specs.Act.{Machine};
 ghost use Rattle.model.specs.Promise.{Closed, NoneInto, TickSeparates, SeparatesUnder, ShowsInOwnTicks, ChangesInOwnTicks, ChannelsFit};
-ghost use Rattle.model.specs.Promise.{FirstReady, WholeIsSame};
+ghost use Rattle.model.specs.Promise.{RunSeparates, TurnsByWindow, FirstReady, WholeIsSame};
 
 /// From any state on: worlds that agree on a closed set of partitions agree on it after a tick, whatever the others are.
 pub fn tick_separates_stands<C>() -> u8
@@ -11,7 +11,14 @@ pub fn tick_separates_stands<C>() -> u8
     0
 }
 
-/// Over a whole run: each partition of a closed set is the same, whatever the others are.
+/// The same over many ticks.
+pub fn run_separates_stands<C>() -> u8
+    ensures { λ _. ⌜ ((M : Machine C) → RunSeparates M) ⌝ }
+{
+    0
+}
+
+/// Over a whole run from the beginning: each partition of a closed set is the same, whatever the others are.
 pub fn separates_stands<C>() -> u8
     ensures { λ _. ⌜ ((M : Machine C) → SeparatesUnder M Closed) ⌝ }
 {
@@ -35,6 +42,13 @@ pub fn changes_in_own_ticks_stands<C>() -> u8
 /// No channel holds more messages than it has places, or one if it has none, and none longer than it allows.
 pub fn channels_fit_stands<C>() -> u8
     ensures { λ _. ⌜ ((M : Machine C) → ChannelsFit M) ⌝ }
+{
+    0
+}
+
+/// Whose tick it is, by round, window and tick of the window.
+pub fn turns_by_window_stands() -> u8
+    ensures { λ _. ⌜ TurnsByWindow ⌝ }
 {
     0
 }

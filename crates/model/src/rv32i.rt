@@ -3,7 +3,7 @@ ghost use mathlib.Core.List.{[], _∷_};
 ghost use Rattle.cpu.specs.Core.{Core};
 ghost use Rattle.cpu.specs.Rv32i.{rv32i};
 ghost use Rattle.model.specs.Promise.{TickSeparates, Separates, BackIsNeeded, ShowsInOwnTicks, ChangesInOwnTicks, ChannelsFit};
-ghost use Rattle.model.specs.Promise.{FirstReady, WholeIsSame};
+ghost use Rattle.model.specs.Promise.{RunSeparates, FirstReady, WholeIsSame};
 ghost use Rattle.model.specs.Samples.{sharing, TurnsAre, turnTable, RoundForEver, lateTwice, SenderShows};
 
 /// From any state on: worlds that agree on a closed set of partitions agree on it after a tick, whatever the others are.
@@ -13,7 +13,14 @@ pub fn tick_separates() -> u8
     0
 }
 
-/// Over a whole run: each partition of a closed set is the same, whatever the others are.
+/// The same over many ticks.
+pub fn run_separates() -> u8
+    ensures { λ _. ⌜ RunSeparates rv32i ⌝ }
+{
+    0
+}
+
+/// Over a whole run from the beginning: each partition of a closed set is the same, whatever the others are.
 pub fn separates() -> u8
     ensures { λ _. ⌜ Separates rv32i ⌝ }
 {
