@@ -1,12 +1,12 @@
 -- What changes in a partition's own ticks only, and what a channel holds. Assumes nothing.
 use mathlib.Core.Path.{_≡_, refl, sym, ap, subst, _∙_}
 use mathlib.Core.Logic.{_≢_}
-use mathlib.Core.Bool.{Bool, true, false, cond, _&&_, _||_}
-use mathlib.Core.List.{List, [], _∷_, _++_}
+use mathlib.Core.Bool.{true, _||_}
+use mathlib.Core.List.{List, [], _∷_}
 use Prim.Native.Nat.{ℕ, zero, suc, max, _≤_, _<_}
 use native.Mathlib.Omega.{arith}
 use lib.Dec.{eqb, ltb, leb}
-use lib.ListN.{length, getD, set, replicate}
+use lib.ListN.{length, getD}
 use Rattle.std.specs.shelf.Lists.{All}
 use Rattle.std.specs.shelf.Maps.{nth}
 use Rattle.std.specs.Options.{mapped, valueOr}
@@ -14,16 +14,16 @@ use Rattle.std.specs.declared.option.Option.{Option}
 use Rattle.std.specs.declared.option.Option.the-variants.{Some, None}
 use Rattle.std.proofs.shelf.Elements.{all-push}
 use Rattle.std.proofs.shelf.Lists.{length-push, getD-set-other}
-use Rattle.std.proofs.shelf.Tests.{and-parts, cond-both, eqb-true, eqb-false, leb-true, ltb-true, or-cases}
+use Rattle.std.proofs.shelf.Tests.{and-parts, cond-both, leb-true, ltb-true}
 use Rattle.cpu.specs.Act.{Machine}
 use Rattle.model.specs.declared.plan.Channel.{Channel}
 use Rattle.model.specs.declared.plan.Task.{Task}
 use Rattle.model.specs.declared.plan.Arrival.{Arrival}
 use Rattle.model.specs.World.{Plan, Part, Sent, World, noPart, part, messages, turn}
-use Rattle.model.specs.Tick.{Change, none, becomes, Step, Sight, maySend, sending, taking, changed, partTick, seen, applied}
-use Rattle.model.specs.Tick.{withHeard, came, later, work, tick, ticks, newRuns, newParts, begin}
+use Rattle.model.specs.Tick.{Change, none, becomes, Sight, maySend, sending, taking, changed, seen, applied}
+use Rattle.model.specs.Tick.{withHeard, came, later, work, tick, ticks, newParts, begin}
 use Rattle.model.specs.Promise.{ShownInOwn, ShowsInOwnTicks, ChangesInOwnTicks, Fits, AllFit, ChannelsFit}
-use Rattle.model.proofs.Places.{getD-nth, getD-alike, set-keeps, getD-replicate-same}
+use Rattle.model.proofs.Places.{getD-nth, set-keeps, getD-replicate-same}
 use Rattle.model.proofs.Steps.{partTick-holds, seen-is, hears, hears-keeps, came-time, came-channels, came-part}
 
 -- What unheard bytes make no difference to is the same after a row.

@@ -1,31 +1,27 @@
 -- The tick over the whole world is the tick in local form. Assumes nothing.
-use mathlib.Core.Path.{_≡_, refl, sym, ap, ap₂, subst, _∙_}
-use mathlib.Core.Logic.{_⊎_, inl, inr, ⊎-elim}
+use mathlib.Core.Path.{_≡_, refl, sym, ap, subst, _∙_}
+use mathlib.Core.Logic.{⊎-elim}
 use mathlib.Core.Bool.{Bool, true, false, cond, _&&_, _||_}
 use mathlib.Core.List.{List, [], _∷_, _++_}
-use Prim.Native.Nat.{ℕ, zero, suc, _+_, _-_, _%_, _≤_, _<_}
-use native.Mathlib.Omega.{arith}
+use Prim.Native.Nat.{ℕ, zero, suc, _+_, _≤_, _<_}
 use lib.Dec.{ltb, leb, eqb}
 use lib.ListN.{length, getD, set, drop}
-use Rattle.std.specs.shelf.Lists.{between}
-use Rattle.std.specs.shelf.Maps.{nth}
 use Rattle.std.specs.Options.{Cases}
 use Rattle.std.specs.declared.option.Option.{Option}
 use Rattle.std.specs.declared.option.Option.the-variants.{Some, None}
 use Rattle.std.proofs.shelf.Lists.{getD-set-same, set-set, set-past, set-getD, getD-past, drop-more, length-set, length-map}
-use Rattle.std.proofs.shelf.Tests.{cond-both, cond-true, cond-false, and-parts, and-from, or-left, both-ways, cases-bool}
 use Rattle.std.proofs.shelf.Tests.{cases-lt}
 use Rattle.bytes.specs.Bytes.{put}
 use Rattle.cpu.specs.Act.{Act, quiet, store, call, wrong, Machine}
 use Rattle.cpu.specs.declared.call.Call.{Call}
 use Rattle.cpu.specs.declared.call.Call.the-variants.{Show, Wait, Clock, Send, Take, Hear, Unknown}
 use Rattle.cpu.specs.declared.call.Answer.{Answer}
-use Rattle.cpu.specs.declared.call.Answer.the-variants.{Value, Message}
+use Rattle.cpu.specs.declared.call.Answer.the-variants.{Value}
 use Rattle.model.specs.declared.plan.Task.{Task}
 use Rattle.model.specs.declared.plan.Arrival.{Arrival}
 use Rattle.model.specs.declared.plan.State.the-variants.{Stopped}
 use Rattle.model.specs.World.{Plan, Run, Part, Sent, World, noPart, part, messages, channel, turn}
-use Rattle.model.specs.Tick.{Change, none, becomes, Step, Sight, update, no, mostUnheard, maySend, sending, taking, changed}
+use Rattle.model.specs.Tick.{none, becomes, Step, Sight, update, no, mostUnheard, maySend, sending, taking, changed}
 use Rattle.model.specs.Tick.{withTasks, withMemory, withHeard, showing, changing, goesOn, waits, stops, refused, sends}
 use Rattle.model.specs.Tick.{takesFirst, takes, called, acted, firstReady, looked, does, instruction, partTick, seen}
 use Rattle.model.specs.Tick.{applied, hearing, came, later, work, tick}

@@ -5,24 +5,23 @@ use mathlib.Core.Bool.{Bool, true, false, cond, _||_}
 use mathlib.Core.List.{List, [], _∷_, map}
 use Prim.Native.Nat.{ℕ, zero, suc}
 use native.Mathlib.Omega.{arith}
-use lib.Dec.{eqb, ltb}
-use lib.ListN.{length, getD, set, replicate}
-use Rattle.std.specs.shelf.Lists.{kept-by}
+use lib.Dec.{eqb}
+use lib.ListN.{length, getD}
 use Rattle.std.specs.shelf.Maps.{nth}
-use Rattle.std.specs.Options.{mapped, valueOr}
+use Rattle.std.specs.Options.{mapped}
 use Rattle.std.specs.declared.option.Option.{Option}
 use Rattle.std.specs.declared.option.Option.the-variants.{Some, None}
 use Rattle.std.proofs.shelf.Tests.{both-ways, cases-bool, eqb-true, eqb-false, cond-both, or-cases, or-left, or-right}
-use Rattle.std.proofs.shelf.Tests.{and-parts, cond-true, cond-false, ne-eqb}
+use Rattle.std.proofs.shelf.Tests.{and-parts, cond-false, ne-eqb}
 use Rattle.cpu.specs.Act.{Machine}
 use Rattle.model.specs.declared.plan.Channel.{Channel}
 use Rattle.model.specs.declared.plan.Task.{Task}
 use Rattle.model.specs.declared.plan.Arrival.{Arrival}
-use Rattle.model.specs.World.{Plan, Part, Sent, World, noPart, part, messages, channel, turn}
+use Rattle.model.specs.World.{Plan, Part, Sent, World, noPart, part, messages, turn}
 use Rattle.model.specs.Tick.{Change, none, becomes, Step, Sight, maySend, sending, taking, changed, partTick, seen, applied}
 use Rattle.model.specs.Tick.{hearing, came, later, work, tick, ticks, newRuns, newParts, begin}
 use Rattle.model.specs.Promise.{touches, SameChannels, SameTurns, Closed, Alike, only, Agree, TickSeparates, RunSeparates, Separates}
-use Rattle.model.proofs.Places.{getD-nth, getD-alike, nth-set-other, nth-set-alike, nth-replicate, mapped-same}
+use Rattle.model.proofs.Places.{getD-alike, nth-set-other, nth-set-alike, nth-replicate}
 use Rattle.model.proofs.Steps.{partTick-holds, sight, seen-sight, seen-is, hears, came-time, came-channels, came-part}
 
 -- The tick is a partition's of the set.

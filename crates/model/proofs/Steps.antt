@@ -1,13 +1,12 @@
 -- What a partition's tick can come to, what a row from outside does to a partition, and what a partition sees of a
 -- channel. Assumes nothing.
 use mathlib.Core.Path.{_≡_, refl, sym, ap, subst, _∙_}
-use mathlib.Core.Logic.{_≢_}
 use mathlib.Core.Bool.{Bool, true, false, cond, _&&_, _||_}
 use mathlib.Core.List.{List, [], _∷_, _++_}
-use Prim.Native.Nat.{ℕ, zero, suc, _+_, _-_, _<_, _≤_}
+use Prim.Native.Nat.{ℕ, _+_, _≤_}
 use native.Mathlib.Omega.{arith}
 use lib.Dec.{ltb, leb, eqb}
-use lib.ListN.{length, getD, set, drop}
+use lib.ListN.{length, getD, drop}
 use Rattle.std.specs.shelf.Lists.{between}
 use Rattle.std.specs.shelf.Maps.{nth}
 use Rattle.std.specs.Options.{mapped, valueOr}
@@ -15,7 +14,6 @@ use Rattle.std.specs.declared.option.Option.{Option}
 use Rattle.std.specs.declared.option.Option.the-variants.{Some, None}
 use Rattle.std.proofs.shelf.Edits.{length-between}
 use Rattle.std.proofs.shelf.Tests.{cond-both, and-parts, leb-true, eqb-true, lt-ltb, le-ltb}
-use Rattle.bytes.specs.Bytes.{put}
 use Rattle.cpu.specs.Act.{Act, quiet, store, call, wrong, Machine}
 use Rattle.cpu.specs.declared.call.Call.{Call}
 use Rattle.cpu.specs.declared.call.Call.the-variants.{Show, Wait, Clock, Send, Take, Hear, Unknown}

@@ -11,7 +11,7 @@ use Rattle.model.specs.declared.plan.Channel.{Channel}
 use Rattle.model.specs.declared.plan.Task.{Task}
 use Rattle.model.specs.declared.plan.State.{State}
 use Rattle.model.specs.declared.plan.State.the-variants.{Ready, Waiting, Stopped}
-use Rattle.model.specs.World.{Plan, Run, World, part, turn}
+use Rattle.model.specs.World.{Plan, World, part, turn}
 use Rattle.model.specs.Tick.{tick, ticks, begin}
 
 -- The plan of the worked cases: a window of a ticks for partition 0, then one of b ticks for partition 1; the first s ticks

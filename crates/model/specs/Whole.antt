@@ -1,9 +1,9 @@
 -- The tick once more, written over the whole world: each step takes the world and gives the world back. It is the same tick
 -- as that of Tick, which is promised in Promise; whoever compares the model with a description of such a computer reads
 -- this. How a task is looked at and which goes first are those of Tick. Assumes nothing: these are definitions.
-use mathlib.Core.Bool.{Bool, true, false, cond, _&&_, _||_}
+use mathlib.Core.Bool.{Bool, cond, _&&_, _||_}
 use mathlib.Core.List.{List, [], _∷_, _++_}
-use Prim.Native.Nat.{ℕ, suc, _+_, _-_, _%_}
+use Prim.Native.Nat.{ℕ, _+_, _-_, _%_}
 use lib.Dec.{ltb, leb, eqb}
 use lib.ListN.{length, getD, set, drop}
 use Rattle.std.specs.shelf.Lists.{between}
