@@ -45,13 +45,19 @@ fits-sent :
     Fits (s .plan) (sending t s bs)
 unfolding maySend sending
 fits-sent q t s bs may h =
-    let rest = and-parts (leb (length bs) (s .plan .bytes)) (eqb (s .plan .places) 0 || ltb (length (s .messages)) (s .plan .places)) (and-parts (eqb (s .plan .from) q) _ may .1) in
+    let rest = and-parts (leb (length bs) (s .plan .bytes))
+    (eqb (s .plan .places) 0 || ltb (length (s .messages)) (s .plan .places))
+    (and-parts (eqb (s .plan .from) q) _ may .1) in
     let short : length bs ≤ s .plan .bytes = leb-true _ _ (rest .0) in
     cond-both {A = List Sent} (eqb (s .plan .places) 0) _ _ (Fits (s .plan))
     (λ _. record { few = omega arith; short = (short, tt) })
     (λ n.
     let room : length (s .messages) < s .plan .places = ltb-true _ _ (rw n at (rest .1)) in
-    record { few = rw (length-push (s .messages) (record { at = t; bytes = bs })) (omega arith); short = all-push _ (s .messages) _ (h .short) short })
+    record {
+      few = rw (length-push (s .messages) (record { at = t; bytes = bs })) (omega arith);
+      short =
+          all-push _ (s .messages) _ (h .short) short;
+    })
 
 fits-rest : (ch : Channel) (m : Sent) (ms : List Sent) → Fits ch (m ∷ ms) → Fits ch ms
 fits-rest ch m ms h = let x : suc (length ms) ≤ max 1 (ch .places) = h .few in record { few = omega arith; short = h .short .1 }
@@ -74,7 +80,10 @@ module _ {C : Type 0} (M : Machine C) (p : Plan) where
   shown-work w None q e h = h
   shown-work w (Some k) q e h =
       set-keeps (λ x. All (λ y. turn p (y .0) ≡ Some q) (x .shown)) (w .parts) k q _ noPart
-      (λ z. partTick-holds k (w .time) (seen (p .channels) k w) (part w k .shown) (λ l _. All (λ y. turn p (y .0) ≡ Some q) l) (here z) (λ b. all-push _ _ _ (here z) (e ∙ ap {B = Option ℕ} Some (sym z))) (λ _ _ _ _ _. here z) (λ _ _ _ _ _ _ _. here z) M (getD (p .tasks) k []) (part w k) refl)
+      (λ z. partTick-holds k (w .time) (seen (p .channels) k w) (part w k .shown)
+      (λ l _. All (λ y. turn p (y .0) ≡ Some q) l) (here z)
+      (λ b. all-push _ _ _ (here z) (e ∙ ap {B = Option ℕ} Some (sym z))) (λ _ _ _ _ _. here z)
+      (λ _ _ _ _ _ _ _. here z) M (getD (p .tasks) k []) (part w k) refl)
       h
     where
       here : q ≡ k → All (λ y. turn p (y .0) ≡ Some q) (getD (w .parts) k noPart .shown)
@@ -103,7 +112,8 @@ module _ {C : Type 0} (M : Machine C) (p : Plan) where
       let x = seen-is (p .channels) q w i s see in
       set-keeps (Fits ch) (w .channels) i c ms []
       (λ z.
-      let y : s .plan ≡ ch = let u : nth (p .channels) i ≡ Some (s .plan) = x .0 in let v : nth (p .channels) i ≡ Some ch = ap (nth (p .channels)) (sym z) ∙ e in cc in
+      let y : s .plan ≡ ch = let u : nth (p .channels) i ≡ Some (s .plan) =
+      x .0 in let v : nth (p .channels) i ≡ Some ch = ap (nth (p .channels)) (sym z) ∙ e in cc in
       subst (λ k. Fits k ms) y (new (subst (Fits (s .plan)) (sym (x .1)) (h i (s .plan) (x .0)))))
       (h c ch e)
 
@@ -113,12 +123,14 @@ module _ {C : Type 0} (M : Machine C) (p : Plan) where
   fits-work w (Some q) h =
       partTick-holds q (w .time) (seen (p .channels) q w) (part w q .shown) (λ _ k. Fit w k) h (λ _. h)
       (λ i s bs see may. fit-becomes w i _ q s h see (fits-sent q (w .time) s bs may))
-      (λ i s m ms see to is. cond-both {A = Change} (eqb (s .plan .places) 0) none (becomes i ms) (Fit w) (λ _. h) (λ _. fit-becomes w i ms q s h see (λ x. fits-rest (s .plan) m ms (subst (Fits (s .plan)) is x))))
+      (λ i s m ms see to is. cond-both {A = Change} (eqb (s .plan .places) 0) none (becomes i ms) (Fit w) (λ _. h)
+      (λ _. fit-becomes w i ms q s h see (λ x. fits-rest (s .plan) m ms (subst (Fits (s .plan)) is x))))
       M (getD (p .tasks) q []) (part w q) refl
 
   fits-tick : (w : World C) (row : List Arrival) → AllFit p w → AllFit p (tick M p w row)
   unfolding tick later messages
-  fits-tick w row h = fits-work (came row w) (turn p (w .time)) (λ c ch e. subst (λ l. Fits ch (getD l c [])) (sym (came-channels row w)) (h c ch e))
+  fits-tick w row h = fits-work (came row w) (turn p (w .time))
+      (λ c ch e. subst (λ l. Fits ch (getD l c [])) (sym (came-channels row w)) (h c ch e))
 
   fits-ticks : (rows : List (List Arrival)) (w : World C) → AllFit p w → AllFit p (ticks M p w rows)
   unfolding ticks
@@ -147,12 +159,15 @@ pub shows-in-own-ticks : {C : Type 0} (M : Machine C) → ShowsInOwnTicks M
 unfolding begin part
 shows-in-own-ticks M = (
   (λ p w row q h. shown-tick M p w row q h),
-  (λ p ms rows q. shown-ticks M p rows (begin M p ms) q (subst (All (λ y. turn p (y .0) ≡ Some q)) (sym (nothing-shown M (p .tasks) ms q)) tt)),
+  (λ p ms rows q. shown-ticks M p rows (begin M p ms) q
+      (subst (All (λ y. turn p (y .0) ≡ Some q)) (sym (nothing-shown M (p .tasks) ms q)) tt)),
 )
 
 pub channels-fit : {C : Type 0} (M : Machine C) → ChannelsFit M
 unfolding begin messages
 channels-fit M = (
   (λ p w row h. fits-tick M p w row h),
-  (λ p ms rows. fits-ticks M p rows (begin M p ms) (λ c ch e. subst (Fits ch) (sym (getD-replicate-same (length (p .channels)) c [])) (record { few = omega arith; short = tt }))),
+  (λ p ms rows. fits-ticks M p rows (begin M p ms)
+      (λ c ch e. subst (Fits ch) (sym (getD-replicate-same (length (p .channels)) c []))
+      (record { few = omega arith; short = tt }))),
 )

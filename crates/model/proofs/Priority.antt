@@ -40,7 +40,11 @@ module _ {C : Type 0} (ks : List Task) where
     place = suc (f .place);
     is = f .is ∙ omega arith;
     ready = f .ready;
-    highest = elim [ zero ↦ λ e. rw (add-zero i) (let x : priorityOf ks i < priorityOf ks j = h (cc) in omega arith) | suc k ↦ λ e. rw (moved i k) (f .highest k e) ];
+    highest = elim [
+      | zero ↦ λ e. rw (add-zero i)
+          (let x : priorityOf ks i < priorityOf ks j = h (cc) in omega arith)
+      | suc k ↦ λ e. rw (moved i k) (f .highest k e)
+    ];
     first = elim [ zero ↦ λ e l. rw (add-zero i) (h (cc)) | suc k ↦ λ e l. rw (moved i k) (f .first k e (omega arith)) ];
   }
 
@@ -73,7 +77,11 @@ module _ {C : Type 0} (ks : List Task) where
             place = 0;
             is = sym (add-zero i);
             ready = ap {B = Option State} Some h;
-            highest = elim [ zero ↦ λ e. rw (add-zero i) (omega arith) | suc k ↦ λ e. rw (moved i k) (let x : priorityOf ks (suc i + k) ≤ priorityOf ks j = f .highest k e in omega arith) ];
+            highest = elim [
+              | zero ↦ λ e. rw (add-zero i) (omega arith)
+              | suc k ↦ λ e. rw (moved i k)
+                  (let x : priorityOf ks (suc i + k) ≤ priorityOf ks j = f .highest k e in omega arith)
+            ];
             first = λ k e l. absurd (omega arith);
           }
 

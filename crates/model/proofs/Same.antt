@@ -72,9 +72,15 @@ arrive-came {C} (a ∷ row) w = arrive-came row _ ∙ ap (came row) (one (ltb (l
 
     one :
         (b : Bool) →
-        cond b (withPart w (a .partition) (withHeard x (x .heard ++ a .byte ∷ []))) w ≡ withPart w (a .partition) (cond b (withHeard x (x .heard ++ a .byte ∷ [])) x)
+        cond b (withPart w (a .partition) (withHeard x (x .heard ++ a .byte ∷ []))) w ≡ withPart w (a .partition)
+        (cond b (withHeard x (x .heard ++ a .byte ∷ [])) x)
     one true = refl
-    one false = λ j. record { time = w .time; parts = sym (set-getD (w .parts) (a .partition) noPart) j; channels = w .channels }
+    one false = λ j. record {
+      time = w .time;
+      parts = sym (set-getD (w .parts) (a .partition) noPart) j;
+      channels =
+          w .channels;
+    }
 
 module _ {C : Type 0} (M : Machine C) where
   -- A task that changes, in the world and in its part.
@@ -96,7 +102,8 @@ module _ {C : Type 0} (M : Machine C) where
     continues-with :
         (x : Part C) (i : ℕ) (c : C) → continues M (withPart w q x) q i c ≡ withPart w q (changing x i (goesOn c))
     unfolding continues goesOn
-    continues-with x i c = run-is (withPart w q x) q i (goesOn c) ∙ (twice x _ ∙ ap (λ y. withPart w q (changing y i (goesOn c))) (part-of x))
+    continues-with x i c =
+        run-is (withPart w q x) q i (goesOn c) ∙ (twice x _ ∙ ap (λ y. withPart w q (changing y i (goesOn c))) (part-of x))
 
   continues-is : (w : World C) (q i : ℕ) (c : C) → continues M w q i c ≡ withPart w q (changing (part w q) i (goesOn c))
   unfolding continues goesOn
@@ -116,13 +123,15 @@ module _ {C : Type 0} (M : Machine C) where
 
     sent-into :
         (c : ℕ) (ms : List Sent) (k : C) →
-        continues M (withMessages w c ms) q i k ≡ put-in (record { part = changing (part w q) i (goesOn k); change = becomes c ms })
+        continues M (withMessages w c ms) q i k ≡ put-in
+        (record { part = changing (part w q) i (goesOn k); change = becomes c ms })
     unfolding applied changed withPart withMessages part
     sent-into c ms k = continues-is (withMessages w c ms) q i k
 
     taken-from :
         (b : Bool) (c : ℕ) (ms : List Sent) (x : Part C) (k : C) →
-        continues M (withPart (cond b w (withMessages w c ms)) q x) q i k ≡ put-in (record { part = changing x i (goesOn k); change = cond b none (becomes c ms) })
+        continues M (withPart (cond b w (withMessages w c ms)) q x) q i k ≡ put-in
+        (record { part = changing x i (goesOn k); change = cond b none (becomes c ms) })
     unfolding applied changed withPart withMessages
     taken-from true c ms x k = continues-with w q there x i k
     taken-from false c ms x k = continues-with (withMessages w c ms) q there x i k
@@ -132,27 +141,35 @@ module _ {C : Type 0} (M : Machine C) where
         doesCall M p w q i (Send c a n) then ≡ put-in (called q (w .time) see (part w q) i (Send c a n) then)
     unfolding doesCall called canSend maySend seen sends nowSent sending
     send-is c a n then =
-        send-guards (λ o. put-in (sends q (w .time) see (part w q) i then c a n o)) (record { plan = channel (p .channels) c; messages = messages w c }) _ _
-        (leb (a + n) (length (part w q .memory))) (ltb c (length (p .channels))) (eqb (channel (p .channels) c .from) q) (eqb (channel (p .channels) c .to) q) _
+        send-guards (λ o. put-in (sends q (w .time) see (part w q) i then c a n o))
+        (record { plan = channel (p .channels) c; messages = messages w c }) _ _
+        (leb (a + n) (length (part w q .memory))) (ltb c (length (p .channels))) (eqb (channel (p .channels) c .from) q)
+        (eqb (channel (p .channels) c .to) q) _
         (sym (refuses then))
         (both-arms put-in _ _ _ (sym (sent-into c _ (then (Value 0)))) (sym (refuses then)))
 
     takeFirst-is :
         (c a : ℕ) (then : Answer → C) (ms : List Sent) →
-        takesOne M p w q i then c a ms ≡ put-in (takesFirst q (w .time) see (part w q) i then c a (record { plan = channel (p .channels) c; messages = messages w c }) ms)
+        takesOne M p w q i then c a ms ≡ put-in
+        (takesFirst q (w .time) see (part w q) i then c a
+        (record { plan = channel (p .channels) c; messages = messages w c }) ms)
     unfolding takesOne takesFirst nowTaken taking
     takeFirst-is c a then [] = refuses then
-    takeFirst-is c a then (m ∷ ms) = sym (both-arms put-in (leb (a + length (m .bytes)) (length (part w q .memory))) _ _ (sym (taken-from (eqb (channel (p .channels) c .places) 0) c ms _ _)) (sym (refuses then)))
+    takeFirst-is c a then (m ∷ ms) =
+        sym (both-arms put-in (leb (a + length (m .bytes)) (length (part w q .memory))) _ _
+        (sym (taken-from (eqb (channel (p .channels) c .places) 0) c ms _ _)) (sym (refuses then)))
 
     take-is :
         (c a : ℕ) (then : Answer → C) →
         doesCall M p w q i (Take c a) then ≡ put-in (called q (w .time) see (part w q) i (Take c a) then)
     unfolding doesCall called seen takes
     take-is c a then =
-        take-guards (λ o. put-in (takes q (w .time) see (part w q) i then c a o)) (record { plan = channel (p .channels) c; messages = messages w c }) _ _
+        take-guards (λ o. put-in (takes q (w .time) see (part w q) i then c a o))
+        (record { plan = channel (p .channels) c; messages = messages w c }) _ _
         (ltb c (length (p .channels))) (eqb (channel (p .channels) c .from) q) (eqb (channel (p .channels) c .to) q)
         (sym (refuses then))
-        (both-arms put-in (eqb (channel (p .channels) c .to) q) _ _ (sym (takeFirst-is c a then (messages w c))) (sym (refuses then)))
+        (both-arms put-in (eqb (channel (p .channels) c .to) q) _ _ (sym (takeFirst-is c a then (messages w c)))
+        (sym (refuses then)))
 
     call-is :
         (k : Call) (then : Answer → C) → doesCall M p w q i k then ≡ put-in (called q (w .time) see (part w q) i k then)
@@ -181,9 +198,16 @@ module _ {C : Type 0} (M : Machine C) where
   runs-is p w q x there None has = refl
   runs-is p w q x there (Some i) has =
       act-is p (withPart w q x) q (rw (length-set (w .parts) q x) there) i _
-      ∙ ((λ j. record { time = w .time; parts = set-set (w .parts) q x (local (part (withPart w q x) q) .part) j; channels = changed (local (part (withPart w q x) q) .change) (w .channels) })
+      ∙ ((λ j. record {
+        time = w .time;
+        parts =
+            set-set (w .parts) q x (local (part (withPart w q x) q) .part) j;
+        channels =
+            changed (local (part (withPart w q x) q) .change) (w .channels);
+      })
       ∙ (ap (λ y. applied w q (local y)) (part-of w q there x)
-      ∙ ap (λ rs. applied w q (does M q (w .time) (seen (p .channels) q w) x i rs)) (sym (drop-more (x .tasks) i idle (has i refl)))))
+      ∙ ap (λ rs. applied w q (does M q (w .time) (seen (p .channels) q w) x i rs))
+      (sym (drop-more (x .tasks) i idle (has i refl)))))
     where
       idle : Run C
       idle = record { state = Stopped; core = M .fresh 0; began = 0; late = 0 }
@@ -194,7 +218,8 @@ module _ {C : Type 0} (M : Machine C) where
   first-there :
       (ks : List Task) (rs : List (Run C)) (o : Option ℕ) → firstReady ks 0 rs ≡ o → (i : ℕ) → o ≡ Some i → i < length rs
   first-there ks rs o e i h =
-      let f : GoesFirst ks rs i = subst (λ u. Cases u ((k : ℕ) → ReadyAt rs k → ⊥) (λ j. GoesFirst ks rs j)) (e ∙ h) (first-ready ks rs) in
+      let f : GoesFirst ks rs i =
+      subst (λ u. Cases u ((k : ℕ) → ReadyAt rs k → ⊥) (λ j. GoesFirst ks rs j)) (e ∙ h) (first-ready ks rs) in
       subst (λ n. i < n) (length-map rs _) (nth-below _ i _ (f .ready))
 
   there-is :
@@ -217,7 +242,8 @@ module _ {C : Type 0} (M : Machine C) where
   beyond-is p w q beyond =
       ap (λ v. runsFirst M p v q) (stays (withTasks (part w q) (looked M (getD (p .tasks) q []) 0 (w .time) (part w q .tasks))))
       ∙ (ap (λ y. runsTask M p w q (firstReady (getD (p .tasks) q []) 0 (y .tasks))) nobody
-      ∙ (sym (stays _) ∙ ap (λ y. applied w q (partTick M q (w .time) (seen (p .channels) q w) (getD (p .tasks) q []) y)) (sym nobody)))
+      ∙ (sym (stays _) ∙ ap (λ y. applied w q (partTick M q (w .time) (seen (p .channels) q w) (getD (p .tasks) q []) y))
+      (sym nobody)))
     where
       nobody : part w q ≡ noPart
       nobody = getD-past (w .parts) q noPart beyond
@@ -235,4 +261,5 @@ unfolding wholeTick tick
 whole-is-same M p w row =
     ap later
     (ap (λ v. worksFor M p (w .time) v (turn p (w .time))) (arrive-came row w)
-    ∙ (ap (λ t. worksFor M p t (came row w) (turn p (w .time))) (sym (came-time row w)) ∙ works-is M p (came row w) (turn p (w .time))))
+    ∙ (ap (λ t. worksFor M p t (came row w) (turn p (w .time))) (sym (came-time row w)) ∙ works-is M p (came row w)
+    (turn p (w .time))))

@@ -20,7 +20,8 @@ use Rattle.model.specs.declared.plan.Arrival.{Arrival}
 use Rattle.model.specs.World.{Plan, Part, Sent, World, noPart, part, messages, turn}
 use Rattle.model.specs.Tick.{Change, none, becomes, Step, Sight, maySend, sending, taking, changed, partTick, seen, applied}
 use Rattle.model.specs.Tick.{hearing, came, later, work, tick, ticks, newRuns, newParts, begin}
-use Rattle.model.specs.Promise.{touches, SameChannels, SameTurns, Closed, Alike, only, Agree, TickSeparates, RunSeparates, Separates}
+use Rattle.model.specs.Promise.{touches, SameChannels, SameTurns, Closed, Alike, only, Agree, TickSeparates, RunSeparates}
+use Rattle.model.specs.Promise.{Separates}
 use Rattle.model.proofs.Places.{getD-alike, nth-set-other, nth-set-alike, nth-replicate}
 use Rattle.model.proofs.Steps.{partTick-holds, sight, seen-sight, seen-is, hears, came-time, came-channels, came-part}
 
@@ -78,19 +79,31 @@ ends A q a (Some ch) = go (cases-bool (eqb (ch .from) q || eqb (ch .to) q))
 
 module _ {C : Type 0} (A : ℕ → Bool) where
   agree-sym : (p : Plan) (w v : World C) → Agree A p w v → Agree A p v w
-  agree-sym p w v g = record { time = sym (g .time); parts = λ q a. sym (g .parts q a); channels = λ c ch e a. sym (g .channels c ch e a) }
+  agree-sym p w v g = record {
+    time = sym (g .time);
+    parts = λ q a. sym (g .parts q a);
+    channels = λ c ch e a. sym (g .channels c ch e a);
+  }
 
   agree-trans : (p : Plan) (u v w : World C) → Agree A p u v → Agree A p v w → Agree A p u w
-  agree-trans p u v w f g = record { time = f .time ∙ g .time; parts = λ q a. f .parts q a ∙ g .parts q a; channels = λ c ch e a. f .channels c ch e a ∙ g .channels c ch e a }
+  agree-trans p u v w f g =
+      record {
+        time = f .time ∙ g .time;
+        parts = λ q a. f .parts q a ∙ g .parts q a;
+        channels = λ c ch e a. f .channels c ch e a ∙ g .channels c ch e a;
+      }
 
   agree-for : (p r : Plan) (w v : World C) → SameChannels A p r → Agree A r w v → Agree A p w v
-  agree-for p r w v same g = record { time = g .time; parts = g .parts; channels = λ c ch e a. g .channels c ch (same c ch e a) a }
+  agree-for p r w v same g =
+      record { time = g .time; parts = g .parts; channels = λ c ch e a. g .channels c ch (same c ch e a) a }
 
 -- A tick of another, or nobody's: the set is as before. What another sends does not go into the set, and what it takes
 -- from the set, from a channel without places, stays there.
 module _ {C : Type 0} (M : Machine C) (A : ℕ → Bool) (p : Plan) (shut : Closed A p) (w : World C) where
   Still : Change → Type 0
-  Still k = (c : ℕ) (ch : Channel) → nth (p .channels) c ≡ Some ch → touches A ch ≡ true → nth (changed k (w .channels)) c ≡ nth (w .channels) c
+  Still k =
+      (c : ℕ) (ch : Channel) → nth (p .channels) c ≡ Some ch → touches A ch ≡ true →
+      nth (changed k (w .channels)) c ≡ nth (w .channels) c
 
   still-none : Still none
   unfolding Still changed
@@ -114,7 +127,8 @@ module _ {C : Type 0} (M : Machine C) (A : ℕ → Bool) (p : Plan) (shut : Clos
         Still (becomes i (sending (w .time) s bs))
     unfolding maySend
     still-sent i s bs see may = still-becomes i _ (λ ch e a.
-        let from : A (ch .from) ≡ false = ap A (ap (λ k. k .from) (sym (plan-is i s ch see e)) ∙ eqb-true _ _ (and-parts _ _ may .0)) ∙ not in
+        let from : A (ch .from) ≡ false =
+        ap A (ap (λ k. k .from) (sym (plan-is i s ch see e)) ∙ eqb-true _ _ (and-parts _ _ may .0)) ∙ not in
         let to : A (ch .to) ≡ true = one-of-two (A (ch .from)) (A (ch .to)) a (λ z. both-ways (A (ch .from)) from z) in
         both-ways (A (ch .from)) from (shut .into i ch e to))
 
@@ -125,15 +139,20 @@ module _ {C : Type 0} (M : Machine C) (A : ℕ → Bool) (p : Plan) (shut : Clos
         cond-both {A = Change} (eqb (s .plan .places) 0) _ _ Still (λ _. still-none) (λ n. still-becomes i ms (λ ch e a.
         let is : s .plan ≡ ch = plan-is i s ch see e in
         let away : A (ch .to) ≡ false = ap A (ap (λ k. k .to) (sym is) ∙ to) ∙ not in
-        let from : A (ch .from) ≡ true = one-of-two (A (ch .to)) (A (ch .from)) (flipped (A (ch .from)) (A (ch .to)) a) (λ z. both-ways (A (ch .to)) away z) in
-        ⊎-elim (λ z. both-ways (A (ch .to)) away z) (λ z. eqb-false (s .plan .places) 0 n (ap (λ k. k .places) is ∙ z)) (shut .back i ch e from)))
+        let from : A (ch .from) ≡ true =
+        one-of-two (A (ch .to)) (A (ch .from)) (flipped (A (ch .from)) (A (ch .to)) a)
+        (λ z. both-ways (A (ch .to)) away z) in
+        ⊎-elim (λ z. both-ways (A (ch .to)) away z) (λ z. eqb-false (s .plan .places) 0 n (ap (λ k. k .places) is ∙ z))
+        (shut .back i ch e from)))
 
     other-agrees : Agree A p (work M p w (Some q)) w
     unfolding work applied part Still
     other-agrees = record {
       time = refl;
       parts = λ k a. nth-set-other (w .parts) q k _ (λ z. both-ways (A q) not (ap A z ∙ a));
-      channels = partTick-holds q (w .time) (seen (p .channels) q w) (part w q .shown) (λ _ k. Still k) still-none (λ _. still-none) still-sent (λ i s m ms see to is. still-took i s ms see to) M (getD (p .tasks) q []) (part w q) refl;
+      channels = partTick-holds q (w .time) (seen (p .channels) q w) (part w q .shown) (λ _ k. Still k) still-none
+          (λ _. still-none) still-sent (λ i s m ms see to is. still-took i s ms see to) M (getD (p .tasks) q [])
+          (part w q) refl;
     }
 
   others-agree : (o : Option ℕ) → mine A o ≡ false → Agree A p (work M p w o) w
@@ -151,22 +170,27 @@ module _ {C : Type 0} (M : Machine C) (A : ℕ → Bool) (p r : Plan) (alike : A
     parts = λ q a.
         came-part row w q
         ∙ (ap (mapped (hears q row)) (g .parts q a)
-        ∙ (ap (λ f. mapped f (nth (v .parts) q)) (fun-ext (λ x. hears-only A q a row x ∙ (ap (λ l. hears q l x) e ∙ sym (hears-only A q a other x))))
+        ∙ (ap (λ f. mapped f (nth (v .parts) q))
+        (fun-ext (λ x. hears-only A q a row x ∙ (ap (λ l. hears q l x) e ∙ sym (hears-only A q a other x))))
         ∙ sym (came-part other v q)));
-    channels = λ c ch h a. ap (λ l. nth l c) (came-channels row w) ∙ (g .channels c ch h a ∙ ap (λ l. nth l c) (sym (came-channels other v)));
+    channels = λ c ch h a. ap (λ l. nth l c) (came-channels row w) ∙
+        (g .channels c ch h a ∙ ap (λ l. nth l c) (sym (came-channels other v)));
   }
 
   -- A partition of the set sees the same.
   sees-alike :
       (w v : World C) (q : ℕ) → A q ≡ true → Agree A p w v → (c : ℕ) → seen (p .channels) q w c ≡ seen (r .channels) q v c
   unfolding messages
-  sees-alike w v q a g c = seen-sight (p .channels) q w c ∙ (go (ends A q a (nth (p .channels) c)) (ends A q a (nth (r .channels) c)) ∙ sym (seen-sight (r .channels) q v c))
+  sees-alike w v q a g c =
+      seen-sight (p .channels) q w c ∙
+      (go (ends A q a (nth (p .channels) c)) (ends A q a (nth (r .channels) c)) ∙ sym (seen-sight (r .channels) q v c))
     where
       Same : Type 0
       Same = sight q (nth (p .channels) c) (messages w c) ≡ sight q (nth (r .channels) c) (messages v c)
 
       both : (ch : Channel) → nth (p .channels) c ≡ Some ch → touches A ch ≡ true → Same
-      both ch e t = ap₂ (sight q) (e ∙ sym (alike .channels .0 c ch e t)) (getD-alike (w .channels) (v .channels) c [] (g .channels c ch e t))
+      both ch e t = ap₂ (sight q) (e ∙ sym (alike .channels .0 c ch e t))
+          (getD-alike (w .channels) (v .channels) c [] (g .channels c ch e t))
 
       End : Option Channel → Type 0
       End o = ((ms : List Sent) → sight q o ms ≡ None) ⊎ ((ch : Channel) × (o ≡ Some ch) × (touches A ch ≡ true))
@@ -189,10 +213,12 @@ module _ {C : Type 0} (M : Machine C) (A : ℕ → Bool) (p r : Plan) (alike : A
   unfolding work part
   own-agrees w v q a g =
       let tasks : getD (p .tasks) q [] ≡ getD (r .tasks) q [] = getD-alike (p .tasks) (r .tasks) q [] (alike .tasks q a) in
-      let mine′ : getD (w .parts) q noPart ≡ getD (v .parts) q noPart = getD-alike (w .parts) (v .parts) q noPart (g .parts q a) in
+      let mine′ : getD (w .parts) q noPart ≡ getD (v .parts) q noPart =
+      getD-alike (w .parts) (v .parts) q noPart (g .parts q a) in
       subst (λ s. Agree A p (work M p w (Some q)) (applied v q s))
       (λ i. partTick M q (g .time i) (λ c. sees-alike w v q a g c i) (tasks i) (mine′ i))
-      (applied-agrees w v q (partTick M q (w .time) (seen (p .channels) q w) (getD (p .tasks) q []) (getD (w .parts) q noPart)) g)
+      (applied-agrees w v q
+      (partTick M q (w .time) (seen (p .channels) q w) (getD (p .tasks) q []) (getD (w .parts) q noPart)) g)
 
   mine-agrees : (w v : World C) (o : Option ℕ) → mine A o ≡ true → Agree A p w v → Agree A p (work M p w o) (work M r v o)
   mine-agrees w v None h g = absurd (both-ways false refl h)
@@ -208,11 +234,15 @@ module _ {C : Type 0} (M : Machine C) (A : ℕ → Bool) (p r : Plan) (alike : A
       go :
           (b d : Bool) → mine A (turn p t) ≡ b → mine A (turn r t) ≡ d →
           Agree A p (work M p w (turn p t)) (work M r v (turn r t))
-      go true d e f = subst (λ o. Agree A p (work M p w (turn p t)) (work M r v o)) (sym (same p r (turn p t) (alike .turns .0) refl e)) (mine-agrees w v (turn p t) e g)
-      go false true e f = absurd (both-ways (mine A (turn p t)) e (ap (mine A) (same r p (turn r t) (alike .turns .1) refl f) ∙ f))
+      go true d e f = subst (λ o. Agree A p (work M p w (turn p t)) (work M r v o))
+          (sym (same p r (turn p t) (alike .turns .0) refl e)) (mine-agrees w v (turn p t) e g)
+      go false true e f = absurd
+          (both-ways (mine A (turn p t)) e (ap (mine A) (same r p (turn r t) (alike .turns .1) refl f) ∙ f))
       go false false e f =
           agree-trans A p _ _ _ (others-agree M A p (alike .closed .0) w (turn p t) e)
-          (agree-trans A p _ _ _ g (agree-sym A p _ _ (agree-for A p r _ _ (alike .channels .0) (others-agree M A r (alike .closed .1) v (turn r t) f))))
+          (agree-trans A p _ _ _ g
+          (agree-sym A p _ _ (agree-for A p r _ _ (alike .channels .0)
+          (others-agree M A r (alike .closed .1) v (turn r t) f))))
 
   tick-agrees :
       (w v : World C) (row other : List Arrival) → only A row ≡ only A other → Agree A p w v →
@@ -220,7 +250,8 @@ module _ {C : Type 0} (M : Machine C) (A : ℕ → Bool) (p r : Plan) (alike : A
   unfolding tick later
   tick-agrees w v row other e g =
       let x : Agree A p (work M p (came row w) (turn p (w .time))) (work M r (came other v) (turn r (v .time))) =
-      subst (λ t. Agree A p (work M p (came row w) (turn p (w .time))) (work M r (came other v) (turn r t))) (g .time) (work-agrees (came row w) (came other v) (w .time) (came-agrees w v row other e g)) in
+      subst (λ t. Agree A p (work M p (came row w) (turn p (w .time))) (work M r (came other v) (turn r t))) (g .time)
+      (work-agrees (came row w) (came other v) (w .time) (came-agrees w v row other e g)) in
       record { time = ap suc (x .time); parts = x .parts; channels = x .channels }
 
   ticks-agree :
@@ -237,7 +268,8 @@ module _ {C : Type 0} (M : Machine C) (A : ℕ → Bool) (p r : Plan) (alike : A
 
 newParts-nth :
     {C : Type 0} (M : Machine C) (kss : List (List Task)) (ms : List (List ℕ)) (q : ℕ) →
-    nth (newParts M kss ms) q ≡ mapped (λ ks. record { memory = getD ms q []; tasks = newRuns M 0 ks; heard = []; shown = [] }) (nth kss q)
+    nth (newParts M kss ms) q ≡
+    mapped (λ ks. record { memory = getD ms q []; tasks = newRuns M 0 ks; heard = []; shown = [] }) (nth kss q)
 unfolding newParts
 newParts-nth M [] ms q = refl
 newParts-nth M (ks ∷ kss) [] zero = refl
@@ -256,7 +288,10 @@ unfolding begin part
 separates M A p r ms ns rows others q alike same e a =
     let start : Agree A p (begin M p ms) (begin M r ns) = record {
       time = refl;
-      parts = λ k b. newParts-nth M (p .tasks) ms k ∙ ((λ i. mapped (λ ks. record { memory = same k b i; tasks = newRuns M 0 ks; heard = []; shown = [] }) (alike .tasks k b i)) ∙ sym (newParts-nth M (r .tasks) ns k));
-      channels = λ c ch h b. nth-replicate (p .channels) c [] ∙ (ap (mapped (λ _. [])) (h ∙ sym (alike .channels .0 c ch h b)) ∙ sym (nth-replicate (r .channels) c []));
+      parts = λ k b. newParts-nth M (p .tasks) ms k ∙
+          ((λ i. mapped (λ ks. record { memory = same k b i; tasks = newRuns M 0 ks; heard = []; shown = [] })
+          (alike .tasks k b i)) ∙ sym (newParts-nth M (r .tasks) ns k));
+      channels = λ c ch h b. nth-replicate (p .channels) c [] ∙
+          (ap (mapped (λ _. [])) (h ∙ sym (alike .channels .0 c ch h b)) ∙ sym (nth-replicate (r .channels) c []));
     } in
     getD-alike _ _ q noPart (ticks-agree M A p r alike rows others (begin M p ms) (begin M r ns) e start .parts q a)

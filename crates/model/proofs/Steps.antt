@@ -33,8 +33,10 @@ use Rattle.model.proofs.Places.{getD-nth, nth-below, nth-beyond, nth-changed, 
 module _
     {C : Type 0} (q t : ℕ) (see : ℕ → Option Sight) (before : List (ℕ × ℕ)) (P : List (ℕ × ℕ) → Change → Type 0)
     (quietly : P before none) (shows : (b : ℕ) → P (before ++ (t, b) ∷ []) none)
-    (sent : (c : ℕ) (s : Sight) (bs : List ℕ) → see c ≡ Some s → maySend q s (length bs) ≡ true → P before (becomes c (sending t s bs)))
-    (took : (c : ℕ) (s : Sight) (m : Sent) (ms : List Sent) → see c ≡ Some s → s .plan .to ≡ q → s .messages ≡ m ∷ ms → P before (taking c s ms)) where
+    (sent : (c : ℕ) (s : Sight) (bs : List ℕ) → see c ≡ Some s → maySend q s (length bs) ≡ true → P before
+    (becomes c (sending t s bs)))
+    (took : (c : ℕ) (s : Sight) (m : Sent) (ms : List Sent) → see c ≡ Some s → s .plan .to ≡ q → s .messages ≡ m ∷ ms →
+    P before (taking c s ms)) where
   Holds : Step C → Type 0
   Holds s = P (s .part .shown) (s .change)
 
@@ -107,7 +109,8 @@ module _
       (M : Machine C) (ks : List Task) (x : Part C) → x .shown ≡ before →
       P (partTick M q t see ks x .part .shown) (partTick M q t see ks x .change)
   unfolding Holds partTick withTasks
-  partTick-holds M ks x e = instruction-holds M (withTasks x (looked M ks 0 t (x .tasks))) (firstReady ks 0 (looked M ks 0 t (x .tasks))) e
+  partTick-holds M ks x e =
+      instruction-holds M (withTasks x (looked M ks 0 t (x .tasks))) (firstReady ks 0 (looked M ks 0 t (x .tasks))) e
 
 -- What partition q sees of a channel with these messages, if there is one.
 abbrev pub sight : ℕ → Option Channel → List Sent → Option Sight
@@ -134,14 +137,16 @@ seen-is chs q w c s e = go (nth chs c) refl (sym (seen-sight chs q w c) ∙ e)
     shown-so :
         (ch : Channel) (b : Bool) → cond b (Some (record { plan = ch; messages = messages w c })) None ≡ Some s →
         (ch ≡ s .plan) × (s .messages ≡ messages w c)
-    shown-so ch true h = let z : _≡_ {A = Sight} (record { plan = ch; messages = messages w c }) s = cc in (ap (λ x. x .plan) z, ap (λ x. x .messages) (sym z))
+    shown-so ch true h = let z : _≡_ {A = Sight} (record { plan = ch; messages = messages w c }) s =
+        cc in (ap (λ x. x .plan) z, ap (λ x. x .messages) (sym z))
     shown-so ch false h = let z : _≡_ {A = ℕ} 0 1 = cc in absurd (omega arith)
 
     go :
         (o : Option Channel) → nth chs c ≡ o → sight q o (messages w c) ≡ Some s → (nth chs c ≡ Some (s .plan)) ×
         (s .messages ≡ messages w c)
     go None f h = let z : _≡_ {A = ℕ} 0 1 = cc in absurd (omega arith)
-    go (Some ch) f h = let y = shown-so ch (eqb (ch .from) q || eqb (ch .to) q) h in (f ∙ ap {B = Option Channel} Some (y .0), y .1)
+    go (Some ch) f h = let y =
+        shown-so ch (eqb (ch .from) q || eqb (ch .to) q) h in (f ∙ ap {B = Option Channel} Some (y .0), y .1)
 
 -- A row from outside, as it comes to partition q alone.
 unfoldable pub hears : {C : Type 0} → ℕ → List Arrival → Part C → Part C
@@ -163,7 +168,9 @@ module _ {C : Type 0} where
       (row : List Arrival) (w : World C) (q : ℕ) → nth (came row w .parts) q ≡ mapped (hears q row) (nth (w .parts) q)
   unfolding came hears part
   came-part [] w q = sym (mapped-same (nth (w .parts) q))
-  came-part (a ∷ row) w q = came-part row _ q ∙ (ap (mapped (hears q row)) (nth-changed (hearing (a .byte)) (w .parts) (a .partition) q noPart) ∙ mapped-mapped _ _ (nth (w .parts) q))
+  came-part (a ∷ row) w q =
+      came-part row _ q ∙ (ap (mapped (hears q row)) (nth-changed (hearing (a .byte)) (w .parts) (a .partition) q noPart)
+      ∙ mapped-mapped _ _ (nth (w .parts) q))
 
   -- What unheard bytes make no difference to, a row makes none to.
   pub hears-keeps :

@@ -1,5 +1,5 @@
--- What is promised of the model. Each is a statement; a function of src/promises.rt owes its proof. Assumes nothing:
--- these are definitions.
+-- What is promised of the model. Each is a statement, whose proof a function of src owes. Assumes nothing: these are
+-- definitions.
 use mathlib.Core.Path.{_≡_}
 use mathlib.Core.Logic.{_≢_, _⊎_}
 use mathlib.Core.Bool.{Bool, true, cond, _||_}
@@ -29,7 +29,8 @@ touches A ch = A (ch .from) || A (ch .to)
 
 -- Each channel of p that touches the set is a channel of r, under the same number.
 abbrev pub SameChannels : (ℕ → Bool) → Plan → Plan → Type 0
-SameChannels A p r = (c : ℕ) (ch : Channel) → nth (p .channels) c ≡ Some ch → touches A ch ≡ true → nth (r .channels) c ≡ Some ch
+SameChannels A p r =
+    (c : ℕ) (ch : Channel) → nth (p .channels) c ≡ Some ch → touches A ch ≡ true → nth (r .channels) c ≡ Some ch
 
 -- Each tick of p that is a partition's of the set is that partition's in r.
 abbrev pub SameTurns : (ℕ → Bool) → Plan → Plan → Type 0

@@ -34,8 +34,8 @@ turnTable =
     ∷ (166, Some 0) ∷ []
 
 -- The bytes of words, low byte first: jal x0, 0 goes round for ever.
-abbrev pub roundForEver : List ℕ
-roundForEver = 0x6f ∷ 0x00 ∷ 0x00 ∷ 0x00 ∷ []
+abbrev pub goesRound : List ℕ
+goesRound = 0x6f ∷ 0x00 ∷ 0x00 ∷ 0x00 ∷ []
 
 -- Sends the byte at 0 into channel 0, shows the answer's low byte, waits:
 --     addi x17, x0, 3    addi x12, x0, 1    ecall    addi x17, x0, 0    ecall    addi x17, x0, 1    ecall
@@ -73,20 +73,22 @@ module _ {C : Type 0} (M : Machine C) where
   -- late: how it stands after 0, 1, 2 and so on to 240 ticks.
   abbrev pub RoundForEver : ℕ → ℕ → ℕ → List (List (ℕ × State)) → Type 0
   RoundForEver period deadline lates table =
-      let p : Plan = sharing 16 100 50 [] ((record { priority = 1; period = period; deadline = deadline; lates = lates } ∷ []) ∷ [] ∷ []) in
-      map standing (history p 240 (begin M p (roundForEver ∷ [] ∷ []))) ≡ table
+      let p : Plan =
+      sharing 16 100 50 [] ((record { priority = 1; period = period; deadline = deadline; lates = lates } ∷ []) ∷ [] ∷ []) in
+      map standing (history p 240 (begin M p (goesRound ∷ [] ∷ []))) ≡ table
 
   -- What the sender, partition 0, has shown after 300 ticks, where channel 0 goes to partition 1 and has so many places, and
   -- partition 1 runs this program.
-  abbrev pub senderShows : ℕ → List ℕ → List (ℕ × ℕ)
-  senderShows places receiver =
+  abbrev pub shownBySender : ℕ → List ℕ → List (ℕ × ℕ)
+  shownBySender places receiver =
       part (ticks M (telling places) (begin M (telling places) (sendsAndShows ∷ receiver ∷ [])) (replicate 300 [])) 0 .shown
 
   -- What the sender shows where the receiver takes each message, and where it takes none.
   abbrev pub SenderShows : ℕ → List (ℕ × ℕ) → List (ℕ × ℕ) → Type 0
-  SenderShows places taken left = (senderShows places takesAndWaits ≡ taken) × (senderShows places roundForEver ≡ left)
+  SenderShows places taken left = (shownBySender places takesAndWaits ≡ taken) × (shownBySender places goesRound ≡ left)
 
 -- Late in tick 30 and, of the next period, in tick 230, where it is stopped; in no other tick.
 abbrev pub lateTwice : List (List (ℕ × State))
 lateTwice =
-    replicate 31 ((0, Ready) ∷ []) ++ (replicate 170 ((1, Waiting) ∷ []) ++ (replicate 30 ((1, Ready) ∷ []) ++ replicate 10 ((2, Stopped) ∷ [])))
+    replicate 31 ((0, Ready) ∷ [])
+    ++ (replicate 170 ((1, Waiting) ∷ []) ++ (replicate 30 ((1, Ready) ∷ []) ++ replicate 10 ((2, Stopped) ∷ [])))

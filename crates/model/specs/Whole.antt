@@ -94,7 +94,8 @@ module _ {C : Type 0} (M : Machine C) where
       (takesOne p w q i then c a (messages w c))
       (continues w q i (then (Value no)))
   doesCall p w q i Hear then =
-      continues (withPart w q (withHeard (part w q) (drop 1 (part w q .heard)))) q i (then (Value (firstHeard (part w q .heard))))
+      continues (withPart w q (withHeard (part w q) (drop 1 (part w q .heard)))) q i
+      (then (Value (firstHeard (part w q .heard))))
   doesCall p w q i Unknown then = continues w q i (then (Value no))
 
   -- What task i of partition q does with its instruction.
@@ -103,7 +104,12 @@ module _ {C : Type 0} (M : Machine C) where
   doesAct p w q i (store a bs c) = continues (withPart w q (withMemory (part w q) (put (part w q .memory) a bs))) q i c
   doesAct p w q i (call k then) = doesCall p w q i k then
   doesAct p w q i wrong =
-      withRun w q i (record { state = Stopped; core = taskOf (part w q) i .core; began = taskOf (part w q) i .began; late = taskOf (part w q) i .late })
+      withRun w q i (record {
+        state = Stopped;
+        core = taskOf (part w q) i .core;
+        began = taskOf (part w q) i .began;
+        late = taskOf (part w q) i .late;
+      })
 
   -- One instruction of partition q: of its first ready task, if there is one.
   unfoldable pub runsTask : Plan → World C → ℕ → Option ℕ → World C
