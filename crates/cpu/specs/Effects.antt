@@ -25,7 +25,7 @@ displaced k offset = low (pos k +ℤ offset)
 abbrev pub inside : ℕ → ℕ → ℕ → Bool
 inside n k size = eqb (k % n) 0 && leb (k + n) size
 
--- A jump that keeps its return address; a branch that is taken; a load; a store.
+-- A jump that keeps where the task would have gone on, and a branch that is taken: to an instruction, or wrong.
 abbrev pub jumps : Reg → ℕ → ℕ → ℕ → Effect
 jumps rd back target size = cond (inside 4 target size) (Sets rd back target) Wrong
 

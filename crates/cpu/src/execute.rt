@@ -1,14 +1,13 @@
 //! What an instruction does, given the values of the registers that it reads.
-ghost use lib.Dec.{T};
 ghost use mathlib.Core.Path.{_≡_};
-ghost use Prim.Native.Nat.{_<_};
-ghost use Rattle.cpu.specs.Effects.{branches, effect, following, inside, Inside, jumps, sources, x0};
+ghost use Rattle.cpu.specs.Effects.{branches, effect, following, Inside, jumps, sources, x0};
+use crate::access::is_inside;
+use crate::access::load_inside;
+use crate::access::store_inside;
 use crate::effect::Effect;
 use crate::operation::displace;
 use crate::operation::holds;
-use crate::operation::load_bytes;
 use crate::operation::shift;
-use crate::operation::store_bytes;
 use crate::operation::with_immediate;
 use crate::operation::with_register;
 use decode::instruction::Instruction;
@@ -49,7 +48,7 @@ pub fn execute(i: Instruction, pc: u32, a: u32, b: u32, size: u32) -> Effect
             ..
         } => {
             let address = displace(a, offset);
-            if is_inside(load_bytes(kind), address, size) {
+            if load_inside(kind, address, size) {
                 Effect::Loads { rd, kind, address }
             } else {
                 Effect::Wrong
@@ -57,7 +56,7 @@ pub fn execute(i: Instruction, pc: u32, a: u32, b: u32, size: u32) -> Effect
         }
         Instruction::Store { kind, offset, .. } => {
             let address = displace(a, offset);
-            if is_inside(store_bytes(kind), address, size) {
+            if store_inside(kind, address, size) {
                 Effect::Stores {
                     kind,
                     address,
@@ -101,14 +100,7 @@ fn after(pc: u32) -> u32
     pc.wrapping_add(4)
 }
 
-/// Whether an access of n bytes lies in memory, at a multiple of n.
-fn is_inside(n: u32, k: u32, size: u32) -> bool
-    requires some { ⌜ 0 < n ⌝ }
-    ensures value { λ r. ⌜ r ≡ inside n k size ⌝ }
-{
-    k % n == 0 && n <= size && k <= size - n
-}
-
+/// A jump that keeps where the task would have gone on.
 fn jump(rd: Reg, back: u32, target: u32, size: u32) -> Effect
     ensures value { λ r. ⌜ r ≡ jumps rd back target size ⌝ }
 {
@@ -123,6 +115,7 @@ fn jump(rd: Reg, back: u32, target: u32, size: u32) -> Effect
     }
 }
 
+/// A branch that is taken.
 fn branch(target: u32, size: u32) -> Effect
     ensures value { λ r. ⌜ r ≡ branches target size ⌝ }
 {
@@ -133,6 +126,7 @@ fn branch(target: u32, size: u32) -> Effect
     }
 }
 
+/// The register that is always 0.
 fn zero() -> Reg
     ensures value { λ r. ⌜ r ≡ x0 ⌝ }
 {
@@ -140,7 +134,7 @@ fn zero() -> Reg
 }
 
 /// The registers rs1 and rs2 of an instruction, x0 where it has none.
-pub fn operands(i: &Instruction) -> (Reg, Reg)
+pub(crate) fn operands(i: &Instruction) -> (Reg, Reg)
     ensures value { λ r. ⌜ r ≡ sources (now (i .entry)) ⌝ }
 {
     match *i {

@@ -4,8 +4,9 @@
 //! load or store, and finishes a load with the bytes that it is given.
 //! Promises: what a word's instruction does is what the manual says of it, over the integers where it is about signed
 //! numbers, and an access lies in memory. Headline: `Registers::step`, clause `value`.
+pub mod access;
 pub mod call;
 pub mod effect;
 pub mod execute;
-pub mod operation;
+mod operation;
 pub mod registers;

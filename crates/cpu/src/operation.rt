@@ -1,28 +1,21 @@
 //! What the instructions compute.
 ghost use mathlib.Core.Path.{_≡_};
-ghost use Prim.Native.Nat.{_-_, _%_, _<_};
 ghost use Rattle.cpu.specs.Effects.{displaced};
 ghost use Rattle.cpu.specs.Meaning.{
-  extended,
   leftBy,
-  loadBytes,
   low,
   meant,
   rightBy,
   shifted,
   signedRightBy,
-  storeBytes,
   taken,
   withImmediate,
   withRegister,
 };
-ghost use Rattle.decode.specs.Fields.{signed};
 use decode::instruction::Condition;
 use decode::instruction::ImmediateOp;
-use decode::instruction::LoadKind;
 use decode::instruction::RegisterOp;
 use decode::instruction::ShiftOp;
-use decode::instruction::StoreKind;
 
 /// The signed number that a register's number stands for.
 fn signed_of(a: u32) -> i32
@@ -51,58 +44,11 @@ pub fn holds(on: Condition, a: u32, b: u32) -> bool
 {
     match on {
         Condition::Beq => a == b,
-        Condition::Bne => !(a == b),
+        Condition::Bne => a != b,
         Condition::Blt => signed_of(a) < signed_of(b),
-        Condition::Bge => !(signed_of(a) < signed_of(b)),
+        Condition::Bge => signed_of(a) >= signed_of(b),
         Condition::Bltu => a < b,
-        Condition::Bgeu => !(a < b),
-    }
-}
-
-/// How many bytes a load reads.
-pub fn load_bytes(kind: LoadKind) -> u32
-    ensures value { λ r. ⌜ r ≡ loadBytes kind ⌝ }
-{
-    match kind {
-        LoadKind::Lb | LoadKind::Lbu => 1,
-        LoadKind::Lh | LoadKind::Lhu => 2,
-        LoadKind::Lw => 4,
-    }
-}
-
-/// How many bytes a store writes.
-pub fn store_bytes(kind: StoreKind) -> u32
-    ensures value { λ r. ⌜ r ≡ storeBytes kind ⌝ }
-{
-    match kind {
-        StoreKind::Sb => 1,
-        StoreKind::Sh => 2,
-        StoreKind::Sw => 4,
-    }
-}
-
-/// What a load makes of the number that it read.
-pub fn finish(kind: LoadKind, raw: u32) -> u32
-    ensures value { λ r. ⌜ r ≡ extended kind raw ⌝ }
-{
-    match kind {
-        LoadKind::Lb => extend(128, raw % 256),
-        LoadKind::Lh => extend(32768, raw % 65536),
-        LoadKind::Lw => raw,
-        LoadKind::Lbu => raw % 256,
-        LoadKind::Lhu => raw % 65536,
-    }
-}
-
-/// The sign of a number, where `half` is the weight of its highest bit, in all higher bits.
-fn extend(half: u32, raw: u32) -> u32
-    requires small { ⌜ half < 65536 ⌝ }
-    ensures value { λ r. ⌜ r ≡ low (signed half raw) ⌝ }
-{
-    if raw < half {
-        raw
-    } else {
-        raw.wrapping_sub(2 * half)
+        Condition::Bgeu => a >= b,
     }
 }
 
@@ -120,6 +66,7 @@ pub fn with_immediate(op: ImmediateOp, a: u32, operand: i32) -> u32
     }
 }
 
+/// Shifts go by the five low bits of n: to the left, to the right with zeros, to the right with the sign.
 fn left(a: u32, n: u32) -> u32
     ensures value { λ r. ⌜ r ≡ leftBy a n ⌝ }
 {

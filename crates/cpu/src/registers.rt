@@ -2,7 +2,7 @@
 ghost use mathlib.Core.Path.{_≡_};
 ghost use lib.ListN.{getD};
 
-mod access;
+mod methods;
 
 /// The program counter, and the registers x0 to x31, of which x0 is 0.
 #[derive(Clone, Copy)]

@@ -3,12 +3,10 @@
 //! Owns what an instruction is, and the formats in which it is written. Knows nothing of registers' values or of memory.
 //! Promises: `decode` gives the instruction that the manual's formats assemble into the word, and nothing for the words
 //! that no instruction has. Headline: `decode`, clauses `encodes` and `only`.
-ghost use lib.IntN.{ℤ};
 ghost use mathlib.Core.Path.{_≡_};
-ghost use Prim.Native.Nat.{ℕ, _*_, _/_, _<_, _^_, _≤_};
+ghost use Prim.Native.Nat.{_*_, _/_, _<_, _^_, _≤_};
 ghost use Rattle.decode.specs.Decoded.{
   branchWith,
-  classed,
   conditionOf,
   decoded,
   fenceWith,
@@ -35,11 +33,10 @@ ghost use Rattle.decode.specs.Fields.{
   immediateI,
   immediateJ,
   immediateS,
-  opcodeOf,
   regOf,
   signed,
 };
-ghost use Rattle.std.specs.declared.option.Option.the-variants.{None, Some};
+ghost use Rattle.std.specs.declared.option.Option.the-variants.{Some};
 
 pub mod instruction;
 pub mod reg;

@@ -2,7 +2,7 @@
 ghost use lib.ListN.{set};
 ghost use mathlib.Core.Path.{_≡_};
 ghost use Rattle.cpu.specs.Core.{fresh};
-ghost use Rattle.cpu.specs.Effects.{following};
+ghost use Rattle.cpu.specs.Effects.{Inside};
 ghost use Rattle.cpu.specs.Held.{coreOf};
 ghost use Rattle.cpu.specs.Rv32i.{answered, called, effectFetched, going, goingOn, held, written};
 use super::Registers;
@@ -89,12 +89,13 @@ impl Registers {
                 self.x[11] = length;
             }
         }
-        self.pc = self.pc.wrapping_add(4);
+        self.go_on();
     }
 
-    /// What the instruction of a word does, where memory has so many bytes; with no word, the pc is wrong.
+    /// What the instruction of the word at the pc does, where memory has so many bytes; with no word there, it is wrong.
     pub fn step(&self, word: Option<u32>, size: u32) -> Effect
         ensures value { λ r. ⌜ r ≡ effectFetched (coreOf (now (self .entry))) word size ⌝ }
+        ensures inside { λ r. ⌜ Inside size r ⌝ }
     {
         let Some(word) = word else {
             return Effect::Wrong;
