@@ -2,6 +2,7 @@ pub mod Places
 pub mod Steps
 pub mod Separation
 pub mod Own
+pub mod Lengths
 pub mod Priority
 pub mod Turns
 pub mod Same

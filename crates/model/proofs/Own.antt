@@ -27,7 +27,7 @@ use Rattle.model.proofs.Places.{getD-nth, set-keeps, getD-replicate-same}
 use Rattle.model.proofs.Steps.{partTick-holds, seen-is, hears, hears-keeps, came-time, came-channels, came-part}
 
 -- What unheard bytes make no difference to is the same after a row.
-came-keeps :
+pub came-keeps :
     {C X : Type 0} (f : Part C → X) → ((x : Part C) (bs : List ℕ) → f (withHeard x bs) ≡ f x) → (row : List Arrival)
     (w : World C) (q : ℕ) → f (part (came row w) q) ≡ f (part w q)
 unfolding part hears

@@ -11,7 +11,7 @@ use Rattle.std.specs.shelf.Lists.{All, kept-by}
 use Rattle.std.specs.shelf.Maps.{nth}
 use Rattle.std.specs.Options.{Cases}
 use Rattle.std.specs.declared.option.Option.the-variants.{Some, None}
-use Rattle.cpu.specs.Act.{Machine}
+use Rattle.cpu.specs.Act.{Act, quiet, store, call, wrong, Machine}
 use Rattle.model.specs.declared.plan.Window.{Window}
 use Rattle.model.specs.declared.plan.Channel.{Channel}
 use Rattle.model.specs.declared.plan.Task.{Task}
@@ -105,6 +105,16 @@ FirstReady C =
     (ks : List Task) (rs : List (Run C)) →
     Cases (firstReady ks 0 rs) ((k : ℕ) → ReadyAt rs k → ⊥) (λ j. GoesFirst ks rs j)
 
+-- HOW LONG A MEMORY IS. What an instruction stores lies in memory.
+abbrev pub Within : {C : Type 0} → List ℕ → Act C → Type 0
+Within m (quiet c) = Unit {0}
+Within m (store a bs c) = a + length bs ≤ length m
+Within m (call k then) = Unit {0}
+Within m wrong = Unit {0}
+
+abbrev pub StoresWithin : {C : Type 0} → Machine C → Type 0
+StoresWithin {C} M = (c : C) (m : List ℕ) → Within m (M .act c m)
+
 -- WHOSE TICK IT IS. In every round, number n, tick j of window k is nobody's if j is one of the system's ticks, and else
 -- the tick of the window's partition.
 abbrev pub TurnsByWindow : Type 0
@@ -156,6 +166,12 @@ module _ {C : Type 0} (M : Machine C) where
       (part (tick M p w row) q .memory ≡ part w q .memory)
       × (part (tick M p w row) q .tasks ≡ part w q .tasks)
       × (part (tick M p w row) q .shown ≡ part w q .shown)
+
+  -- On a core that stores in memory only, each partition's memory keeps its length.
+  abbrev pub MemoriesKeepLength : Type 0
+  MemoriesKeepLength =
+      StoresWithin M → (p : Plan) (w : World C) (row : List Arrival) (q : ℕ) →
+      length (part (tick M p w row) q .memory) ≡ length (part w q .memory)
 
   -- A tick keeps it that the channels hold what they may, and so a run from the beginning has it.
   abbrev pub ChannelsFit : Type 0

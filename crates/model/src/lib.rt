@@ -10,7 +10,9 @@
 //! - the headline: a set of partitions into which no channel comes from outside, and from which none with places goes
 //!   out, is the same after every run, whatever the others' number, programs, tasks, windows, channels and arrivals are;
 //! - what a partition has, but for its unheard bytes, changes in its own ticks only, and what it shows it shows in them;
+//! - a partition's memory keeps its length;
 //! - a channel never holds more, or longer, messages than its plan allows;
+//! - whose tick it is, by round, window and tick of the window;
 //! - the task that goes first is ready, has the highest priority, and is the first of equals;
 //! - both forms of the tick are the same.
 //!

@@ -2,7 +2,7 @@
 //! its proof is the proof of that statement.
 ghost use Rattle.cpu.specs.Act.{Machine};
 ghost use Rattle.model.specs.Promise.{Closed, NoneInto, TickSeparates, SeparatesUnder, ShowsInOwnTicks, ChangesInOwnTicks, ChannelsFit};
-ghost use Rattle.model.specs.Promise.{RunSeparates, TurnsByWindow, FirstReady, WholeIsSame};
+ghost use Rattle.model.specs.Promise.{MemoriesKeepLength, RunSeparates, TurnsByWindow, FirstReady, WholeIsSame};
 
 /// From any state on: worlds that agree on a closed set of partitions agree on it after a tick, whatever the others are.
 pub fn tick_separates_stands<C>() -> u8
@@ -35,6 +35,13 @@ pub fn shows_in_own_ticks_stands<C>() -> u8
 /// A partition's memory, tasks and shown bytes change in its own ticks only.
 pub fn changes_in_own_ticks_stands<C>() -> u8
     ensures { λ _. ⌜ ((M : Machine C) → ChangesInOwnTicks M) ⌝ }
+{
+    0
+}
+
+/// A partition's memory keeps its length, on a core that stores in memory only.
+pub fn memories_keep_length_stands<C>() -> u8
+    ensures { λ _. ⌜ ((M : Machine C) → MemoriesKeepLength M) ⌝ }
 {
     0
 }

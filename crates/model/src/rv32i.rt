@@ -3,7 +3,7 @@ ghost use mathlib.Core.List.{[], _∷_};
 ghost use Rattle.cpu.specs.Core.{Core};
 ghost use Rattle.cpu.specs.Rv32i.{rv32i};
 ghost use Rattle.model.specs.Promise.{TickSeparates, Separates, BackIsNeeded, ShowsInOwnTicks, ChangesInOwnTicks, ChannelsFit};
-ghost use Rattle.model.specs.Promise.{RunSeparates, FirstReady, WholeIsSame};
+ghost use Rattle.model.specs.Promise.{MemoriesKeepLength, RunSeparates, StoresWithin, FirstReady, WholeIsSame};
 ghost use Rattle.model.specs.Samples.{sharing, TurnsAre, turnTable, RoundForEver, lateTwice, SenderShows};
 
 /// From any state on: worlds that agree on a closed set of partitions agree on it after a tick, whatever the others are.
@@ -44,6 +44,13 @@ pub fn shows_in_own_ticks() -> u8
 /// A partition's memory, tasks and shown bytes change in its own ticks only.
 pub fn changes_in_own_ticks() -> u8
     ensures { λ _. ⌜ ChangesInOwnTicks rv32i ⌝ }
+{
+    0
+}
+
+/// RV32I stores in memory only, and so each partition's memory keeps its length.
+pub fn memories_keep_length() -> u8
+    ensures { λ _. ⌜ StoresWithin rv32i ⌝ ∗ ⌜ MemoriesKeepLength rv32i ⌝ }
 {
     0
 }
