@@ -1,2 +1,5 @@
 pub mod World
 pub mod Tick
+pub mod Whole
+pub mod Promise
+pub mod Samples

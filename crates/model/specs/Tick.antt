@@ -108,7 +108,7 @@ module _ {C : Type 0} where
   unfoldable pub checked : Task → ℕ → Run C → Run C
   checked k t r =
       cond (isReady (r .state) && leb (r .began + k .deadline) t)
-        (record { state = cond (leb (k .lates) (r .late)) Stopped Waiting; core = r .core; began = r .began; late = suc (r .late) }) r
+      (record { state = cond (leb (k .lates) (r .late)) Stopped Waiting; core = r .core; began = r .began; late = suc (r .late) }) r
 
   -- The ready task with the highest priority, the first of equals.
   unfoldable pub firstReady : List Task → ℕ → List (Run C) → Option ℕ
@@ -140,19 +140,19 @@ module _ {C : Type 0} where
     sends x i then c a n None = refused x i then
     sends x i then c a n (Some s) =
         cond (leb (a + n) (length (x .memory)) && maySend q s n)
-          (record { part = changing x i (goesOn (then (Value 0))); change = becomes c (sending t s (between a (a + n) (x .memory))) })
-          (refused x i then)
+        (record { part = changing x i (goesOn (then (Value 0))); change = becomes c (sending t s (between a (a + n) (x .memory))) })
+        (refused x i then)
 
     -- A take of the first of these messages from channel c to address a on.
     unfoldable pub takesFirst : Part C → ℕ → (Answer → C) → ℕ → ℕ → Sight → List Sent → Step C
     takesFirst x i then c a s [] = refused x i then
     takesFirst x i then c a s (m ∷ ms) =
         cond (leb (a + length (m .bytes)) (length (x .memory)))
-          (record
-            { part = changing (withMemory x (put (x .memory) a (m .bytes))) i (goesOn (then (Message ((t - m .at) % no) (length (m .bytes)))))
-            ; change = taking c s ms
-            })
-          (refused x i then)
+        (record {
+          part = changing (withMemory x (put (x .memory) a (m .bytes))) i (goesOn (then (Message ((t - m .at) % no) (length (m .bytes)))));
+          change = taking c s ms;
+        })
+        (refused x i then)
 
     unfoldable pub takes : Part C → ℕ → (Answer → C) → ℕ → ℕ → Option Sight → Step C
     takes x i then c a None = refused x i then
@@ -180,7 +180,7 @@ module _ {C : Type 0} (M : Machine C) where
   unfoldable pub woken : Task → ℕ → ℕ → Run C → Run C
   woken k i t r =
       cond (isWaiting (r .state) && leb (r .began + k .period) t)
-        (record { state = Ready; core = M .fresh i; began = r .began + k .period; late = r .late }) r
+      (record { state = Ready; core = M .fresh i; began = r .began + k .period; late = r .late }) r
 
   -- A partition's tasks are looked at, each: first whether it begins anew, then whether it is late.
   unfoldable pub looked : List Task → ℕ → ℕ → List (Run C) → List (Run C)
@@ -207,7 +207,7 @@ module _ {C : Type 0} where
   unfoldable pub seen : List Channel → ℕ → World C → ℕ → Option Sight
   seen chs q w c =
       cond (ltb c (length chs) && (eqb (channel chs c .from) q || eqb (channel chs c .to) q))
-        (Some (record { plan = channel chs c; messages = messages w c })) None
+      (Some (record { plan = channel chs c; messages = messages w c })) None
 
   unfoldable pub applied : World C → ℕ → Step C → World C
   applied w q s = record { time = w .time; parts = set (w .parts) q (s .part); channels = changed (s .change) (w .channels) }
