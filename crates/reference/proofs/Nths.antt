@@ -59,3 +59,8 @@ module _ {X Y : Type 0} (f : X → Y) where
 
   pub getD-map-none : (xs : List X) (i : ℕ) (d : Y) → nth xs i ≡ None → getD (map f xs) i d ≡ d
   getD-map-none xs i d e = getD-past (map f xs) i d (omega (arith, length-map xs f, nth-none-past xs i e))
+
+  pub nth-map-some : (xs : List X) (i : ℕ) (x : X) → nth xs i ≡ Some x → nth (map f xs) i ≡ Some (f x)
+  nth-map-some [] i x e = let z : _≡_ {A = ℕ} 0 1 = cc in absurd (omega arith)
+  nth-map-some (y ∷ ys) zero x e = let same : y ≡ x = cc in ap (λ z. Some (f z)) same
+  nth-map-some (y ∷ ys) (suc i) x e = nth-map-some ys i x e
