@@ -1,4 +1,4 @@
-//! Accesses to memory: how many bytes, whether they lie in memory, and what a load makes of them.
+//! Accesses to memory: whether they lie in it, and what a load makes of what it read.
 ghost use mathlib.Core.Path.{_≡_};
 ghost use Prim.Native.Nat.{_<_};
 ghost use Rattle.cpu.specs.Effects.{inside};

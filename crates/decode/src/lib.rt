@@ -96,12 +96,14 @@ fn register(word: u32, from: u32) -> Reg
     Reg::of(word >> from)
 }
 
+/// What tells apart the instructions of an opcode.
 fn funct3(word: u32) -> u32
     ensures value { λ r. ⌜ r ≡ funct3Of word ⌝ }
 {
     (word >> 12) % 8
 }
 
+/// What tells apart those of a funct3.
 fn funct7(word: u32) -> u32
     ensures value { λ r. ⌜ r ≡ funct7Of word ⌝ }
 {
@@ -121,6 +123,7 @@ fn signed_by(half: u32, n: u32) -> i32
     }
 }
 
+/// The immediates, each by its format: I, S, B and J.
 fn immediate_i(word: u32) -> i32
     ensures value { λ r. ⌜ r ≡ immediateI word ⌝ }
 {
@@ -153,6 +156,7 @@ fn immediate_j(word: u32) -> i32
     )
 }
 
+/// The second stage: JALR has funct3 0.
 fn jalr(word: u32) -> Option<Instruction>
     ensures value { λ r. ⌜ r ≡ jalrWith word (funct3Of word) ⌝ }
 {
@@ -167,6 +171,7 @@ fn jalr(word: u32) -> Option<Instruction>
     }
 }
 
+/// BRANCH, by funct3.
 fn condition(funct3: u32) -> Option<Condition>
     ensures value { λ r. ⌜ r ≡ conditionOf funct3 ⌝ }
 {
@@ -195,6 +200,7 @@ fn branch(word: u32) -> Option<Instruction>
     }
 }
 
+/// LOAD, by funct3.
 fn load_kind(funct3: u32) -> Option<LoadKind>
     ensures value { λ r. ⌜ r ≡ loadKindOf funct3 ⌝ }
 {
@@ -222,6 +228,7 @@ fn load(word: u32) -> Option<Instruction>
     }
 }
 
+/// STORE, by funct3.
 fn store_kind(funct3: u32) -> Option<StoreKind>
     ensures value { λ r. ⌜ r ≡ storeKindOf funct3 ⌝ }
 {
@@ -247,6 +254,7 @@ fn store(word: u32) -> Option<Instruction>
     }
 }
 
+/// OP-IMM, by funct3; what is left are the shifts, by funct7 too.
 fn immediate_op(funct3: u32) -> Option<ImmediateOp>
     ensures value { λ r. ⌜ r ≡ immediateOpOf funct3 ⌝ }
 {
@@ -307,6 +315,7 @@ fn shift(word: u32) -> Option<Instruction>
     }
 }
 
+/// OP, where funct7 is 0, and where it is 0x20.
 fn plain_op(funct3: u32) -> Option<RegisterOp>
     ensures value { λ r. ⌜ r ≡ plainOpOf funct3 ⌝ }
 {
@@ -357,6 +366,7 @@ fn registers(word: u32) -> Option<Instruction>
     }
 }
 
+/// MISC-MEM: FENCE has funct3 0, and its other fields say only what it orders.
 fn fence(word: u32) -> Option<Instruction>
     ensures value { λ r. ⌜ r ≡ fenceWith (funct3Of word) ⌝ }
 {
@@ -367,6 +377,7 @@ fn fence(word: u32) -> Option<Instruction>
     }
 }
 
+/// SYSTEM: ECALL is one word.
 fn system(word: u32) -> Option<Instruction>
     ensures value { λ r. ⌜ r ≡ systemOf word ⌝ }
 {
