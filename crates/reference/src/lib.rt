@@ -5,5 +5,7 @@ mod own;
 pub mod part;
 pub mod queue;
 pub mod row;
+pub mod shown;
+mod step;
 pub mod task;
 mod turn;

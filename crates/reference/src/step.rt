@@ -1,0 +1,55 @@
+//! One tick over what is lent: bytes come, and the partition whose tick it is has its own.
+use crate::own::own_tick;
+use crate::part::Partition;
+use crate::queue::Queue;
+use crate::shown::Shown;
+use crate::turn::turn_at;
+use model::plan::Arrival;
+use model::plan::Window;
+ghost use mathlib.Core.Path.{_≡_};
+ghost use mathlib.Core.List.{List, [], map};
+ghost use Prim.Native.Nat.{ℕ, _+_, _^_, _<_};
+ghost use lib.ListN.{length};
+ghost use Rattle.std.specs.declared.option.Option.the-variants.{Some};
+ghost use Rattle.cpu.specs.Rv32i.{rv32i};
+ghost use Rattle.model.specs.World.{Sent};
+ghost use Rattle.model.specs.Tick.{came, work, tick};
+ghost use Rattle.reference.specs.Parts.{tasksOf};
+ghost use Rattle.reference.specs.Own.{plansOf, said};
+ghost use Rattle.reference.specs.View.{planIn, partsOf, worldOf, showing, after};
+
+/// Bytes from outside come, each for its partition.
+fn arrivals(parts: &mut [Partition], row: &[Arrival])
+    ensures value { λ _. ⌜ ((t : ℕ) (m : ℕ → List ℕ) (cs : List (List Sent)) (s : ℕ → List (ℕ × ℕ)) → record { time = t; parts = partsOf (now (parts .exit)) m s 0; channels = cs } ≡ came (now (row .entry)) (record { time = t; parts = partsOf (now (parts .entry)) m s 0; channels = cs })) ⌝ }
+    ensures tasks { λ _. ⌜ map tasksOf (now (parts .exit)) ≡ map tasksOf (now (parts .entry)) ⌝ }
+{
+    for a in row {
+        let q = a.partition as usize;
+        if q < parts.len() {
+            parts[q].arrive(a.byte);
+        }
+    }
+}
+
+/// Partition q has its own tick, if there is such a partition.
+fn turn_of(
+    parts: &mut [Partition],
+    memories: &mut [&mut [u8]],
+    channels: &mut [Queue],
+    q: u8,
+    time: u64,
+) -> Option<u8>
+    ensures value { λ r. ⌜ ((system : ℕ) (s : ℕ → List (ℕ × ℕ)) → worldOf time (now (parts .exit)) (map (λ x. now x) (now (memories .exit))) (now (channels .exit)) (showing s q (said time r)) ≡ work rv32i (planIn system [] (now (parts .entry)) (now (channels .entry))) (worldOf time (now (parts .entry)) (map (λ x. now x) (now (memories .entry))) (now (channels .entry)) s) (Some q)) ⌝ }
+    ensures tasks { λ _. ⌜ map tasksOf (now (parts .exit)) ≡ map tasksOf (now (parts .entry)) ⌝ }
+    ensures plans { λ _. ⌜ plansOf (now (channels .exit)) ≡ plansOf (now (channels .entry)) ⌝ }
+{
+    let k = q as usize;
+    if k >= parts.len() {
+        return None;
+    }
+    if k >= memories.len() {
+        let mut none: [u8; 0] = [];
+        return own_tick(&mut parts[k], &mut none, channels, q, time);
+    }
+    own_tick(&mut parts[k], memories[k], channels, q, time)
+}
