@@ -7,16 +7,29 @@ use crate::turn::turn_at;
 use model::plan::Arrival;
 use model::plan::Window;
 ghost use mathlib.Core.Path.{_≡_};
-ghost use mathlib.Core.List.{List, [], map};
+ghost use mathlib.Core.List.{List, [], _∷_, map};
 ghost use Prim.Native.Nat.{ℕ, _+_, _^_, _<_};
 ghost use lib.ListN.{length};
 ghost use Rattle.std.specs.declared.option.Option.the-variants.{Some};
 ghost use Rattle.cpu.specs.Rv32i.{rv32i};
 ghost use Rattle.model.specs.World.{Sent};
+ghost use Rattle.model.specs.declared.plan.Arrival.{Arrival as Arriving};
 ghost use Rattle.model.specs.Tick.{came, work, tick};
 ghost use Rattle.reference.specs.Parts.{tasksOf};
 ghost use Rattle.reference.specs.Own.{plansOf, said};
 ghost use Rattle.reference.specs.View.{planIn, partsOf, worldOf, showing, after};
+
+/// A byte from outside comes for its partition, if there is such a partition.
+fn arrival(parts: &mut [Partition], a: Arrival)
+    ensures value { λ _. ⌜ ((t : ℕ) (m : ℕ → List ℕ) (cs : List (List Sent)) (s : ℕ → List (ℕ × ℕ)) (rest : List Arriving) → came rest (record { time = t; parts = partsOf (now (parts .exit)) m s 0; channels = cs }) ≡ came (a ∷ rest) (record { time = t; parts = partsOf (now (parts .entry)) m s 0; channels = cs })) ⌝ }
+    ensures tasks { λ _. ⌜ map tasksOf (now (parts .exit)) ≡ map tasksOf (now (parts .entry)) ⌝ }
+{
+    let q = a.partition as usize;
+    if q >= parts.len() {
+        return;
+    }
+    parts[q].arrive(a.byte);
+}
 
 /// Bytes from outside come, each for its partition.
 fn arrivals(parts: &mut [Partition], row: &[Arrival])
@@ -24,10 +37,7 @@ fn arrivals(parts: &mut [Partition], row: &[Arrival])
     ensures tasks { λ _. ⌜ map tasksOf (now (parts .exit)) ≡ map tasksOf (now (parts .entry)) ⌝ }
 {
     for a in row {
-        let q = a.partition as usize;
-        if q < parts.len() {
-            parts[q].arrive(a.byte);
-        }
+        arrival(parts, *a);
     }
 }
 
