@@ -3,8 +3,9 @@ use mathlib.Core.Path.{_≡_, _∙_, sym, refl, ap, subst}
 use mathlib.Core.Bool.{Bool, true, false, cond, _&&_, _||_}
 use mathlib.Core.List.{List, [], _∷_, _++_, map}
 use mathlib.Core.Logic.{_≢_}
-use Prim.Native.Nat.{ℕ, zero, suc, _+_, _≤_, _<_}
+use Prim.Native.Nat.{ℕ, zero, suc, _+_, _%_, _≤_, _<_}
 use native.Mathlib.Nat.{add-zero, zero-add, add-suc, suc-add, le-of-suc-le-suc, not-suc-le-zero}
+use native.Mathlib.Numerals.{add-one}
 use native.Mathlib.Omega.{arith}
 use lib.Dec.{ltb, eqb}
 use lib.ListN.{length, getD, set}
@@ -16,8 +17,9 @@ use Rattle.std.proofs.shelf.Tests.{cond-true, cond-false, ne-eqb, eq-eqb}
 use Rattle.cpu.specs.Core.{Core}
 use Rattle.cpu.specs.Rv32i.{rv32i}
 use Rattle.model.specs.declared.plan.Arrival.{Arrival}
-use Rattle.model.specs.World.{Part, World, Sent, Plan, noPart, part, messages}
-use Rattle.model.specs.Tick.{Step, hearing, withHeard, withTasks, mostUnheard, came, work, applied, partTick, looked, firstReady, instruction, changed, seen}
+use Rattle.model.specs.declared.plan.Window.{Window}
+use Rattle.model.specs.World.{Part, World, Sent, Plan, noPart, part, messages, round, turnIn, turn}
+use Rattle.model.specs.Tick.{Step, hearing, withHeard, withTasks, mostUnheard, came, work, applied, partTick, looked, firstReady, instruction, changed, seen, tick, later}
 use Rattle.reference.specs.declared.part.Partition.{Partition}
 use Rattle.reference.specs.declared.queue.Queue.{Queue}
 use Rattle.reference.specs.Rows.{held}
@@ -187,3 +189,33 @@ module _ {R : Type 0} (value : R → List ℕ) (rs : List R) (q : ℕ) (r : R) w
 -- The tasks' plan stays.
 pub plan-kept : (xs : List Partition) (q : ℕ) (x y : Partition) → nth xs q ≡ Some x → tasksOf y ≡ tasksOf x → map tasksOf (set xs q y) ≡ map tasksOf xs
 plan-kept xs q x y h e = map-set tasksOf xs q y ∙ ap (set (map tasksOf xs) q) e ∙ set-same (map tasksOf xs) q (tasksOf x) [] (getD-map-some tasksOf xs q x [] h)
+
+-- ---- a whole tick
+
+-- The plan matters to a partition's tick by its channels and tasks alone.
+work-plan : (system : ℕ) (ws : List Window) (xs ys : List Partition) (cs : List Queue) (w : World Core) (o : Option ℕ) → map tasksOf ys ≡ map tasksOf xs
+    → work rv32i (planIn system [] ys cs) w o ≡ work rv32i (planIn system ws xs cs) w o
+unfolding work planIn
+work-plan system ws xs ys cs w None e = refl
+work-plan system ws xs ys cs w (Some q) e = ap (λ kss. applied w q (partTick rv32i q (w .time) (seen (plansOf cs) q w) (getD kss q []) (part w q))) e
+
+module _ (system t : ℕ) (ws : List Window) (xs ys : List Partition) (ms : List (List ℕ)) (cs : List Queue) (row : List Arrival) (s : ℕ → List (ℕ × ℕ)) where
+  -- ys are the partitions when the bytes have come.
+  pub ticked :
+      (zs : List Partition) (ns : List (List ℕ)) (ds : List Queue) (r : ℕ → List (ℕ × ℕ)) (o : Option ℕ)
+      → record { time = t; parts = partsOf ys (λ q. getD ms q []) s 0; channels = channelsOf cs } ≡ came row (record { time = t; parts = partsOf xs (λ q. getD ms q []) s 0; channels = channelsOf cs })
+      → map tasksOf ys ≡ map tasksOf xs → o ≡ turnIn system ws (t % round ws)
+      → worldOf t zs ns ds r ≡ work rv32i (planIn system [] ys cs) (worldOf t ys ms cs s) o
+      → worldOf (t + 1) zs ns ds r ≡ tick rv32i (planIn system ws xs cs) (worldOf t xs ms cs s) row
+  unfolding worldOf tick turn planIn later
+  ticked zs ns ds r o a k e f =
+      ap (λ n. record { time = n; parts = partsOf zs (λ q. getD ns q []) r 0; channels = channelsOf ds }) (add-one t)
+      ∙ ap later
+          (f
+          ∙ work-plan system ws xs ys cs (worldOf t ys ms cs s) o k
+          ∙ (λ j. work rv32i (planIn system ws xs cs) (a j) (e j)))
+
+-- Nothing shown is nothing more.
+pub showing-none : (s : ℕ → List (ℕ × ℕ)) (q t : ℕ) → showing s q (said t None) ≡ s
+unfolding said
+showing-none s q t = λ i j. shown-none s q j i

@@ -1,5 +1,6 @@
 //! The model as a program.
 mod access;
+mod begin;
 pub mod letter;
 mod own;
 pub mod part;
@@ -9,3 +10,4 @@ pub mod shown;
 mod step;
 pub mod task;
 mod turn;
+pub mod world;

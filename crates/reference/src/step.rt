@@ -63,3 +63,28 @@ fn turn_of(
     }
     own_tick(&mut parts[k], memories[k], channels, q, time)
 }
+
+/// One tick, at a time below 2^40. What comes back is what was shown, if anything was.
+pub(crate) fn advance(
+    system: u16,
+    windows: &[Window],
+    time: u64,
+    parts: &mut [Partition],
+    memories: &mut [&mut [u8]],
+    channels: &mut [Queue],
+    row: &[Arrival],
+) -> Option<Shown>
+    requires { ⌜ time < 2 ^ 40 ⌝ }
+    ensures value { λ r. ⌜ ((s : ℕ → List (ℕ × ℕ)) → worldOf (time + 1) (now (parts .exit)) (map (λ x. now x) (now (memories .exit))) (now (channels .exit)) (after s r) ≡ tick rv32i (planIn system (now (windows .entry)) (now (parts .entry)) (now (channels .entry))) (worldOf time (now (parts .entry)) (map (λ x. now x) (now (memories .entry))) (now (channels .entry)) s) (now (row .entry))) ⌝ }
+    ensures tasks { λ _. ⌜ map tasksOf (now (parts .exit)) ≡ map tasksOf (now (parts .entry)) ⌝ }
+    ensures plans { λ _. ⌜ plansOf (now (channels .exit)) ≡ plansOf (now (channels .entry)) ⌝ }
+{
+    arrivals(parts, row);
+    let Some(q) = turn_at(system, windows, time) else {
+        return None;
+    };
+    let Some(byte) = turn_of(parts, memories, channels, q, time) else {
+        return None;
+    };
+    Some(Shown { partition: q, tick: time, byte })
+}

@@ -18,7 +18,7 @@ ghost use Rattle.std.specs.declared.option.Option.the-variants.{Some};
 ghost use Rattle.cpu.specs.declared.call.Answer.the-variants.{Value};
 ghost use Rattle.model.specs.declared.plan.State.the-variants.{Ready};
 ghost use Rattle.model.specs.World.{noTask};
-ghost use Rattle.model.specs.Tick.{looked, firstReady, firstHeard, better, isReady, mostUnheard, update, goesOn, waits, stops};
+ghost use Rattle.model.specs.Tick.{looked, firstReady, firstHeard, better, isReady, mostUnheard, update, goesOn, waits, stops, newRuns};
 ghost use Rattle.reference.specs.Rows.{held};
 ghost use Rattle.reference.specs.Parts.{tasksOf, runsOf, heardOf, runOf};
 
@@ -42,6 +42,21 @@ impl Partition {
     {
         let number = self.tasks.len() as u8;
         self.tasks.push(Running::new(plan, number))
+    }
+
+    /// All tasks are as at the start, and nothing is unheard.
+    pub(crate) fn renew(&mut self)
+        ensures tasks { λ _. ⌜ tasksOf (now (self .exit)) ≡ tasksOf (now (self .entry)) ⌝ }
+        ensures runs { λ _. ⌜ runsOf (now (self .exit)) ≡ newRuns rv32i 0 (tasksOf (now (self .entry))) ⌝ }
+        ensures heard { λ _. ⌜ heardOf (now (self .exit)) ≡ [] ⌝ }
+    {
+        self.heard.clear();
+        'tasks: for i in 0..16u8 {
+            let Some(run) = self.tasks.get(i as usize) else {
+                break 'tasks;
+            };
+            self.tasks.put(i as usize, run.renewed(i));
+        }
     }
 
     /// A byte from outside comes; where as many wait as may, it is lost.

@@ -24,6 +24,14 @@ impl Queue {
         Some(Queue { plan, messages: Row::new(Letter::new(0, &[])) })
     }
 
+    /// Takes all messages away.
+    pub(crate) fn clear(&mut self)
+        ensures after { λ _. ⌜ sentsOf (now (self .exit)) ≡ [] ⌝ }
+        ensures same { λ _. ⌜ now (self .exit) .plan ≡ now (self .entry) .plan ⌝ }
+    {
+        self.messages.clear();
+    }
+
     /// Partition `from` sends so many bytes of its memory.
     pub(crate) fn send(&mut self, from: u8, time: u64, memory: &[u8], address: u32, length: u32) -> Answer
         ensures value { λ r. ⌜ record { answer = r; messages = sentsOf (now (self .exit)); memory = now (memory .entry) } ≡ posting from time (sightOf (now (self .entry))) (now (memory .entry)) address length ⌝ }

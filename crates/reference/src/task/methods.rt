@@ -21,6 +21,14 @@ impl Running {
         Running { plan, state: State::Ready, core: Registers::new(number), began: 0, late: 0 }
     }
 
+    /// The task as it is at the start.
+    pub(crate) fn renewed(&self, number: u8) -> Running
+        ensures value { λ r. ⌜ runOf r ≡ record { state = Ready; core = fresh number; began = 0; late = 0 } ⌝ }
+        ensures plan { λ r. ⌜ taskOf r ≡ taskOf (now (self .entry)) ⌝ }
+    {
+        Running::new(self.plan, number)
+    }
+
     /// Whether it may do an instruction.
     pub(crate) fn is_ready(&self) -> bool
         ensures value { λ r. ⌜ r ≡ isReady (runOf (now (self .entry)) .state) ⌝ }

@@ -1,0 +1,17 @@
+-- What the whole computer of the program stands for. Assumes nothing: these are definitions.
+use mathlib.Core.List.{List, map}
+use Prim.Native.Nat.{ℕ}
+use denote.Ref.{now}
+use Rattle.cpu.specs.Core.{Core}
+use Rattle.model.specs.World.{Plan}
+use Rattle.model.specs.World.{World as Computer}
+use Rattle.reference.specs.declared.world.World.{World}
+use Rattle.reference.specs.View.{planIn, worldOf}
+
+-- Its plan.
+abbrev pub planOf : World → Plan
+planOf w = planIn (w .system) (now (w .windows)) (now (w .parts)) (now (w .channels))
+
+-- The computer, whose partitions have shown these bytes.
+abbrev pub viewOf : World → (ℕ → List (ℕ × ℕ)) → Computer Core
+viewOf w s = worldOf (w .time) (now (w .parts)) (map (λ m. now m) (now (w .memories))) (now (w .channels)) s
