@@ -1,4 +1,4 @@
-//! What a partition showed.
+//! What comes of a tick.
 
 /// A byte, the partition that showed it, and the tick in which it did.
 #[derive(Clone, Copy)]
@@ -6,4 +6,13 @@ pub struct Shown {
     pub partition: u8,
     pub tick: u64,
     pub byte: u8,
+}
+
+/// Why a tick or a run is refused.
+#[derive(Clone, Copy)]
+pub enum Refused {
+    /// A tick would come after the 2^40th.
+    Over,
+    /// There are fewer places for what is shown than ticks.
+    Places,
 }
