@@ -72,6 +72,11 @@ did-as step other t y m cs ds r e d =
       ; plans = d .plans
       }
 
+-- The same memory under another name.
+pub did-memory :
+    (step : List (ℕ × ℕ) → Step Core) (t : ℕ) (y : Partition) (m n : List ℕ) (cs ds : List Queue) (r : Option ℕ) → n ≡ m → Did step t y m cs ds r → Did step t y n cs ds r
+did-memory step t y m n cs ds r e d = subst (λ z. Did step t y z cs ds r) (sym e) d
+
 -- ---- the task that goes first
 
 module _ (q t : ℕ) (sn : ℕ → Option Sight) (x y : Partition) (m : List ℕ) where

@@ -12,7 +12,7 @@ use lib.ListN.{length, getD, set}
 use Rattle.std.specs.declared.option.Option.{Option}
 use Rattle.std.specs.declared.option.Option.the-variants.{Some, None}
 use Rattle.std.specs.Runs.{nth}
-use Rattle.std.proofs.shelf.Lists.{length-map, map-set, set-past, getD-past, append-nil, getD-set-same, getD-set-other}
+use Rattle.std.proofs.shelf.Lists.{map-set, set-past, getD-past, append-nil}
 use Rattle.std.proofs.shelf.Tests.{cond-true, cond-false, ne-eqb, eq-eqb}
 use Rattle.cpu.specs.Core.{Core}
 use Rattle.cpu.specs.Rv32i.{rv32i}
@@ -177,14 +177,6 @@ module _ (system t : ℕ) (xs : List Partition) (ms : List (List ℕ)) (cs : Lis
         (subst (λ z. Did (λ w. partTick rv32i q t (seenOf cs q) (tasksOf x) (partOf x z w)) t y (getD ns q []) cs ds r) (sym eb)
           (subst (λ z. Did (λ w. partTick rv32i q t (seenOf cs q) (tasksOf x) (partOf x before w)) t y z cs ds r) (sym ea) d))
         e
-
--- A list of references of which one has another value.
-module _ {R : Type 0} (value : R → List ℕ) (rs : List R) (q : ℕ) (r : R) where
-  pub value-put : q < length rs → getD (map value (set rs q r)) q [] ≡ value r
-  value-put h = ap (λ zs. getD zs q []) (map-set value rs q r) ∙ getD-set-same (map value rs) q (value r) [] (omega (arith, length-map rs value))
-
-  pub value-other : (j : ℕ) → j ≢ q → getD (map value (set rs q r)) j [] ≡ getD (map value rs) j []
-  value-other j h = ap (λ zs. getD zs j []) (map-set value rs q r) ∙ getD-set-other (map value rs) q j (value r) [] h
 
 -- The tasks' plan stays.
 pub plan-kept : (xs : List Partition) (q : ℕ) (x y : Partition) → nth xs q ≡ Some x → tasksOf y ≡ tasksOf x → map tasksOf (set xs q y) ≡ map tasksOf xs

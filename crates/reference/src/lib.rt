@@ -4,6 +4,7 @@ mod begin;
 pub mod letter;
 mod own;
 pub mod part;
+mod place;
 pub mod queue;
 pub mod row;
 pub mod shown;

@@ -1,6 +1,7 @@
 //! One tick over what is lent: bytes come, and the partition whose tick it is has its own.
 use crate::own::own_tick;
 use crate::part::Partition;
+use crate::place::region;
 use crate::queue::Queue;
 use crate::shown::Shown;
 use crate::turn::turn_at;
@@ -8,15 +9,18 @@ use model::plan::Arrival;
 use model::plan::Window;
 ghost use mathlib.Core.Path.{_≡_};
 ghost use mathlib.Core.List.{List, [], _∷_, map};
-ghost use Prim.Native.Nat.{ℕ, _+_, _^_, _<_};
+ghost use Prim.Native.Nat.{ℕ, _+_, _^_, _≤_, _<_};
 ghost use lib.ListN.{length};
 ghost use Rattle.std.specs.declared.option.Option.the-variants.{Some};
 ghost use Rattle.cpu.specs.Rv32i.{rv32i};
 ghost use Rattle.model.specs.World.{Sent};
 ghost use Rattle.model.specs.declared.plan.Arrival.{Arrival as Arriving};
-ghost use Rattle.model.specs.Tick.{came, work, tick};
-ghost use Rattle.reference.specs.Parts.{tasksOf};
-ghost use Rattle.reference.specs.Own.{plansOf, said};
+ghost use Rattle.std.specs.shelf.Lists.{between};
+ghost use Rattle.bytes.specs.Bytes.{put};
+ghost use Rattle.model.specs.Tick.{came, work, tick, partTick};
+ghost use Rattle.reference.specs.Parts.{tasksOf, partOf};
+ghost use Rattle.reference.specs.Own.{Did, plansOf, said, seenOf};
+ghost use Rattle.reference.specs.Memories.{memoriesIn};
 ghost use Rattle.reference.specs.View.{planIn, partsOf, worldOf, showing, after};
 
 /// A byte from outside comes for its partition, if there is such a partition.
@@ -41,15 +45,35 @@ fn arrivals(parts: &mut [Partition], row: &[Arrival])
     }
 }
 
-/// Partition q has its own tick, if there is such a partition.
-fn turn_of(
-    parts: &mut [Partition],
-    memories: &mut [&mut [u8]],
+/// A partition's own tick, over the part of memory that is its own.
+fn lend_tick(
+    part: &mut Partition,
+    memory: &mut [u8],
+    a: usize,
+    e: usize,
     channels: &mut [Queue],
     q: u8,
     time: u64,
 ) -> Option<u8>
-    ensures value { λ r. ⌜ ((system : ℕ) (s : ℕ → List (ℕ × ℕ)) → worldOf time (now (parts .exit)) (map (λ x. now x) (now (memories .exit))) (now (channels .exit)) (showing s q (said time r)) ≡ work rv32i (planIn system [] (now (parts .entry)) (now (channels .entry))) (worldOf time (now (parts .entry)) (map (λ x. now x) (now (memories .entry))) (now (channels .entry)) s) (Some q)) ⌝ }
+    requires order { ⌜ a ≤ e ⌝ }
+    requires within { ⌜ e ≤ length (now memory) ⌝ }
+    ensures value { λ r. ⌜ Did (λ s. partTick rv32i q time (seenOf (now (channels .entry)) q) (tasksOf (now (part .entry))) (partOf (now (part .entry)) (between a e (now (memory .entry))) s)) time (now (part .exit)) (between a e (now (memory .exit))) (now (channels .entry)) (now (channels .exit)) r ⌝ }
+    ensures lent { λ _. ⌜ now (memory .exit) ≡ put (now (memory .entry)) a (between a e (now (memory .exit))) ⌝ }
+    ensures tasks { λ _. ⌜ tasksOf (now (part .exit)) ≡ tasksOf (now (part .entry)) ⌝ }
+{
+    own_tick(part, &mut memory[a..e], channels, q, time)
+}
+
+/// Partition q has its own tick, if there is such a partition.
+fn turn_of(
+    parts: &mut [Partition],
+    pages: &[u16],
+    memory: &mut [u8],
+    channels: &mut [Queue],
+    q: u8,
+    time: u64,
+) -> Option<u8>
+    ensures value { λ r. ⌜ ((system : ℕ) (s : ℕ → List (ℕ × ℕ)) → worldOf time (now (parts .exit)) (memoriesIn (now (pages .entry)) (now (memory .exit))) (now (channels .exit)) (showing s q (said time r)) ≡ work rv32i (planIn system [] (now (parts .entry)) (now (channels .entry))) (worldOf time (now (parts .entry)) (memoriesIn (now (pages .entry)) (now (memory .entry))) (now (channels .entry)) s) (Some q)) ⌝ }
     ensures tasks { λ _. ⌜ map tasksOf (now (parts .exit)) ≡ map tasksOf (now (parts .entry)) ⌝ }
     ensures plans { λ _. ⌜ plansOf (now (channels .exit)) ≡ plansOf (now (channels .entry)) ⌝ }
 {
@@ -57,11 +81,8 @@ fn turn_of(
     if k >= parts.len() {
         return None;
     }
-    if k >= memories.len() {
-        let mut none: [u8; 0] = [];
-        return own_tick(&mut parts[k], &mut none, channels, q, time);
-    }
-    own_tick(&mut parts[k], memories[k], channels, q, time)
+    let (a, e) = region(pages, k, memory.len());
+    lend_tick(&mut parts[k], memory, a, e, channels, q, time)
 }
 
 /// One tick, at a time below 2^40. What comes back is what was shown, if anything was.
@@ -70,12 +91,13 @@ pub(crate) fn advance(
     windows: &[Window],
     time: u64,
     parts: &mut [Partition],
-    memories: &mut [&mut [u8]],
+    pages: &[u16],
+    memory: &mut [u8],
     channels: &mut [Queue],
     row: &[Arrival],
 ) -> Option<Shown>
     requires { ⌜ time < 2 ^ 40 ⌝ }
-    ensures value { λ r. ⌜ ((s : ℕ → List (ℕ × ℕ)) → worldOf (time + 1) (now (parts .exit)) (map (λ x. now x) (now (memories .exit))) (now (channels .exit)) (after s r) ≡ tick rv32i (planIn system (now (windows .entry)) (now (parts .entry)) (now (channels .entry))) (worldOf time (now (parts .entry)) (map (λ x. now x) (now (memories .entry))) (now (channels .entry)) s) (now (row .entry))) ⌝ }
+    ensures value { λ r. ⌜ ((s : ℕ → List (ℕ × ℕ)) → worldOf (time + 1) (now (parts .exit)) (memoriesIn (now (pages .entry)) (now (memory .exit))) (now (channels .exit)) (after s r) ≡ tick rv32i (planIn system (now (windows .entry)) (now (parts .entry)) (now (channels .entry))) (worldOf time (now (parts .entry)) (memoriesIn (now (pages .entry)) (now (memory .entry))) (now (channels .entry)) s) (now (row .entry))) ⌝ }
     ensures tasks { λ _. ⌜ map tasksOf (now (parts .exit)) ≡ map tasksOf (now (parts .entry)) ⌝ }
     ensures plans { λ _. ⌜ plansOf (now (channels .exit)) ≡ plansOf (now (channels .entry)) ⌝ }
 {
@@ -83,7 +105,7 @@ pub(crate) fn advance(
     let Some(q) = turn_at(system, windows, time) else {
         return None;
     };
-    let Some(byte) = turn_of(parts, memories, channels, q, time) else {
+    let Some(byte) = turn_of(parts, pages, memory, channels, q, time) else {
         return None;
     };
     Some(Shown { partition: q, tick: time, byte })

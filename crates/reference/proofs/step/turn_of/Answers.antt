@@ -1,41 +1,39 @@
 use mathlib.Core.Path.{_≡_, refl, sym, _∙_, ap}
 use mathlib.Core.List.{map, []}
 use native.Mathlib.Omega.{arith}
-use denote.Ref.{now}
-use lib.ListN.{getD}
+use Prim.Native.Nat.{_-_}
+use lib.ListN.{getD, length}
+use Rattle.std.specs.shelf.Lists.{between}
 use Rattle.std.proofs.shelf.Maps.{nth-getD}
-use Rattle.std.proofs.shelf.Lists.{getD-map, getD-past, length-map, nil-from-length}
-use Rattle.reference.proofs.Worlds.{worked-with, worked-nowhere, plan-kept, value-put, value-other}
+use Rattle.std.proofs.shelf.Edits.{length-between}
+use Rattle.reference.specs.Memories.{memoriesIn}
+use Rattle.reference.proofs.Places.{region-is, region-put, region-other}
+use Rattle.reference.proofs.Worlds.{worked-with, worked-nowhere, plan-kept}
 use Rattle.reference.proofs.step.turn_of.Needs as need
 
 pub returns-then-k-parts : need.returns-then-k-parts
 returns-then-k-parts c =
     record { value = λ system s. worked-nowhere system (c .args .time) (c .args .parts .now) _ (c .args .channels .now) s (c .args .q) (c .if-k-parts .taken); tasks = refl; plans = refl }
 
-pub returns-then-k-memories : need.returns-then-k-memories
-returns-then-k-memories c =
-    let xs = c .args .parts .now in
-    let old = getD xs (c .args .q) (c .index-parts-k .result) in
-    let found = nth-getD xs (c .args .q) (c .index-parts-k .result) (c .if-k-parts .left) in
-    let past : getD (map (λ x. now x) (c .args .memories .now)) (c .args .q) [] ≡ [] = getD-past _ (c .args .q) [] (omega (arith, length-map (c .args .memories .now) (λ x. now x), c .if-k-memories .taken)) in
-    record
-      { value = λ system s.
-          worked-with system (c .args .time) xs _ (c .args .channels .now) s (c .args .q) _ _ old (c .own-tick .last .part) (c .own-tick .result) [] (c .own-tick .last .memory) found
-            past (past ∙ sym (nil-from-length (c .own-tick .last .memory) (c .own-tick .kept .memory))) (c .own-tick .ensures .value) (λ j h. refl)
-      ; tasks = plan-kept xs (c .args .q) old (c .own-tick .last .part) found (c .own-tick .ensures .tasks)
-      ; plans = c .own-tick .ensures .value .plans
-      }
-
 pub returns : need.returns
 returns c =
     let xs = c .args .parts .now in
-    let old = getD xs (c .args .q) (c .index-parts-k-2 .result) in
-    let found = nth-getD xs (c .args .q) (c .index-parts-k-2 .result) (c .if-k-parts .left) in
+    let ps = c .args .pages .now in
+    let m = c .args .memory .now in
+    let n = c .lend-tick .last .memory in
+    let q = c .args .q in
+    let a = c .region-a .result .0 in
+    let e = c .region-a .result .1 in
+    let old = getD xs q (c .index-parts-k .result) in
+    let found = nth-getD xs q (c .index-parts-k .result) (c .if-k-parts .left) in
+    let many : length (between a e n) ≡ e - a = length-between n a e (omega (arith, c .lend-tick .kept .memory, c .region-a .ensures .end)) in
     record
-      { value = λ system s. 
-          worked-with system (c .args .time) xs _ (c .args .channels .now) s (c .args .q) _ _ old (c .own-tick-2 .last .part) (c .own-tick-2 .result) _ (c .own-tick-2 .last .memory) found
-            (getD-map (λ x. now x) (c .args .memories .now) (c .args .q) _ [] (c .if-k-memories .left)) (value-put (λ x. now x) (c .args .memories .now) (c .args .q) _ (c .if-k-memories .left))
-            (c .own-tick-2 .ensures .value) (value-other (λ x. now x) (c .args .memories .now) (c .args .q) _)
-      ; tasks = plan-kept xs (c .args .q) old (c .own-tick-2 .last .part) found (c .own-tick-2 .ensures .tasks)
-      ; plans = c .own-tick-2 .ensures .value .plans
+      { value = λ system s.
+          worked-with system (c .args .time) xs (memoriesIn ps m) (c .args .channels .now) s q (memoriesIn ps n) _ old (c .lend-tick .last .part) (c .lend-tick .result) (between a e m) (between a e n) found
+            (region-is ps m q a e (c .region-a .ensures .begin) (c .region-a .ensures .end))
+            (ap (λ z. getD (memoriesIn ps z) q []) (c .lend-tick .ensures .lent) ∙ region-put ps m q a e (c .region-a .ensures .begin) (c .region-a .ensures .end) (between a e n) many)
+            (c .lend-tick .ensures .value)
+            (λ j h. ap (λ z. getD (memoriesIn ps z) j []) (c .lend-tick .ensures .lent) ∙ region-other ps m q a e (c .region-a .ensures .begin) (c .region-a .ensures .end) (between a e n) j many h)
+      ; tasks = plan-kept xs q old (c .lend-tick .last .part) found (c .lend-tick .ensures .tasks)
+      ; plans = c .lend-tick .ensures .value .plans
       }

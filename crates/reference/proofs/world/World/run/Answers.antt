@@ -9,6 +9,7 @@ use Rattle.cpu.specs.Rv32i.{rv32i}
 use Rattle.model.specs.Tick.{tick, ticks}
 use Rattle.reference.specs.Own.{plansOf}
 use Rattle.reference.specs.Parts.{tasksOf}
+use Rattle.reference.specs.Memories.{memoriesIn}
 use Rattle.reference.specs.View.{planIn, worldOf, after, afterAll}
 use Rattle.reference.proofs.Runs.{after-more, behind, run-more, run-all}
 use Rattle.reference.proofs.world.World.run.Needs as need
@@ -34,7 +35,7 @@ loop-k-again c =
     , (λ s.
         run-more _ _ _ _ _ _ _ (drop (k + 1) rows)
           (λ j. record { system = c .args .self .system; windows = c .args .self .windows .now; channels = c .loop-k .inv .3 j; tasks = c .loop-k .inv .2 j })
-          (ap (worldOf (c .loop-k .clock + 1) (c .advance .last .parts) (map (λ m. now m) (c .advance .last .memories)) (c .advance .last .channels)) (after-more (c .loop-k .shown) k (c .advance .result) s place)
+          (ap (worldOf (c .loop-k .clock + 1) (c .advance .last .parts) (memoriesIn (c .args .self .pages .now) (c .advance .last .memory)) (c .advance .last .channels)) (after-more (c .loop-k .shown) k (c .advance .result) s place)
           ∙ c .advance .ensures .value (afterAll s (take k (c .loop-k .shown))))
           (drop-more rows k [] here ∙ ap (λ row. row ∷ drop (k + 1) rows) (getD-map (λ row. now row) (c .args .rows .now) k _ [] (c .loop-k-test .taken)))
           (c .loop-k .inv .1 s))
@@ -53,7 +54,7 @@ returns c =
       { plan = λ j. record { system = c .args .self .system; windows = c .args .self .windows .now; channels = c .loop-k .inv .3 j; tasks = c .loop-k .inv .2 j }
       ; value =
           ( (λ s.
-              ap (λ n. worldOf (c .loop-k .clock) (c .loop-k .parts) (map (λ m. now m) (c .loop-k .memories)) (c .loop-k .channels) (afterAll s (take n (c .loop-k .shown)))) (sym all)
+              ap (λ n. worldOf (c .loop-k .clock) (c .loop-k .parts) (memoriesIn (c .args .self .pages .now) (c .loop-k .memory)) (c .loop-k .channels) (afterAll s (take n (c .loop-k .shown)))) (sym all)
               ∙ run-all _ _ _ _ (drop-all k rows (omega (arith, length-map (c .args .rows .now) (λ row. now row)))) (c .loop-k .inv .1 s))
           , ap (λ n. drop n (c .loop-k .shown)) (sym all) ∙ c .loop-k .inv .4 ∙ ap (λ n. drop n (c .args .shown .now)) all
           )
