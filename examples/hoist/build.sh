@@ -32,7 +32,7 @@ for name in $programs; do
         exit 1
     fi
     if [ "${1-}" != --check ]; then
-        cp "$work/$name.bin" "$here/$name.bin"
+        cat "$work/$name.bin" >"$here/$name.bin"
         echo "$name.bin: $size bytes"
     elif cmp -s "$work/$name.bin" "$here/$name.bin"; then
         echo "$name.bin: as its source gives it"
