@@ -1,7 +1,7 @@
 # watch: the brakes' watch.
 #
 # Twice a second it looks at the drive's last report, and puts the brakes on when something is wrong:
-#   1  no report, or one older than 700 ticks
+#   1  no report, or one older than 800 ticks
 #   2  too fast for this place in the shaft (the cam, below)
 #   3  the cage is beyond a landing
 #   4  the cam in memory is not as it was built
@@ -24,7 +24,7 @@
 
     .include "hoist.inc"
 
-    .equ OLD, 700                   # ticks: the drive reports every 1000, and a check comes 100 or 600 later
+    .equ OLD, 800                   # ticks: in a check a report is 700 old at most, or 1067 at least if one is missing
     .equ KEY, 'r'
     .equ CAM, 64                    # places of the cam, each for 8 dm
 
