@@ -41,13 +41,13 @@ pub between-put-other :
     (xs ys : List ℕ) (k j m : ℕ) → k + length ys ≤ length xs → (j + m ≤ k) ⊎ (k + length ys ≤ j) → between j (j + m) (put xs k ys) ≡ between j (j + m) xs
 between-put-other xs ys k j m h o =
     ⊎-elim
-      (λ (before : j + m ≤ k).
-        between-is (put xs k ys) j (j + m)
-        ∙ ap (λ zs. drop j zs) (ap (λ zs. take (j + m) zs) (sym same) ∙ take-putMid-below k (length ys) xs ys (j + m) before (omega arith))
-        ∙ sym (between-is xs j (j + m)))
-      (λ (behind : k + length ys ≤ j).
-        ap (λ zs. take (j + m - j) zs) (ap (λ zs. drop j zs) (sym same) ∙ drop-putMid k (length ys) xs ys j behind (omega arith) refl))
-      o
+    (λ (before : j + m ≤ k).
+    between-is (put xs k ys) j (j + m)
+    ∙ ap (λ zs. drop j zs) (ap (λ zs. take (j + m) zs) (sym same) ∙ take-putMid-below k (length ys) xs ys (j + m) before (omega arith))
+    ∙ sym (between-is xs j (j + m)))
+    (λ (behind : k + length ys ≤ j).
+    ap (λ zs. take (j + m - j) zs) (ap (λ zs. drop j zs) (sym same) ∙ drop-putMid k (length ys) xs ys j behind (omega arith) refl))
+    o
   where
     same : putMid k (length ys) xs ys ≡ put xs k ys
     same = put-is xs ys k (length ys) refl

@@ -16,7 +16,7 @@ pub fn read_u8(b: &[u8], k: usize) -> u8
     requires { ⌜ k + 1 ≤ length (now b) ⌝ }
     ensures value { λ r. ⌜ r ≡ at 1 (now (b .entry)) k ⌝ }
 {
-    b[k]
+    u8::from_le_bytes([b[k]])
 }
 
 /// The number in the two bytes from `k` on.

@@ -23,10 +23,10 @@ low-2 v =
     let e : v % 65536 % 256 ≡ v % 256 = omega arith in
     let whole : v ≡ v % 65536 + 256 * (256 * (v / 65536)) = omega arith in
     let f : v % 65536 / 256 % 256 ≡ v / 256 % 256 =
-          sym
-            (ap (λ x. x / 256 % 256) whole
-            ∙ ap (λ x. x % 256) (add-mul-div-left (v % 65536) (256 * (v / 65536)) (lit< tt))
-            ∙ add-mul-mod-self-left (v % 65536 / 256) 256 (v / 65536)) in
+    sym
+    (ap (λ x. x / 256 % 256) whole
+    ∙ ap (λ x. x % 256) (add-mul-div-left (v % 65536) (256 * (v / 65536)) (lit< tt))
+    ∙ add-mul-mod-self-left (v % 65536 / 256) 256 (v / 65536)) in
     ap (λ x. x ∷ v % 65536 / 256 % 256 ∷ []) e ∙ ap (λ x. v % 256 ∷ x ∷ []) f
 
 module _ (m : List ℕ) (pc : ℕ) where

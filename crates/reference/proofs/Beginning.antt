@@ -45,12 +45,12 @@ unfolding partsOf newParts partOf
 new-parts [] memory ms i e n = refl
 new-parts (x ∷ xs) memory [] i e n =
     (λ j.
-      record { memory = (ap memory (sym (add-zero i)) ∙ e 0) j; tasks = n 0 x refl .runs j; heard = n 0 x refl .heard j; shown = [] }
-      ∷ new-parts xs memory [] (suc i) (λ k. ap memory (suc-add i k ∙ sym (add-suc i k)) ∙ e (suc k)) (λ q y h. n (suc q) y h) j)
+    record { memory = (ap memory (sym (add-zero i)) ∙ e 0) j; tasks = n 0 x refl .runs j; heard = n 0 x refl .heard j; shown = [] }
+    ∷ new-parts xs memory [] (suc i) (λ k. ap memory (suc-add i k ∙ sym (add-suc i k)) ∙ e (suc k)) (λ q y h. n (suc q) y h) j)
 new-parts (x ∷ xs) memory (m ∷ ms) i e n =
     (λ j.
-      record { memory = (ap memory (sym (add-zero i)) ∙ e 0) j; tasks = n 0 x refl .runs j; heard = n 0 x refl .heard j; shown = [] }
-      ∷ new-parts xs memory ms (suc i) (λ k. ap memory (suc-add i k ∙ sym (add-suc i k)) ∙ e (suc k)) (λ q y h. n (suc q) y h) j)
+    record { memory = (ap memory (sym (add-zero i)) ∙ e 0) j; tasks = n 0 x refl .runs j; heard = n 0 x refl .heard j; shown = [] }
+    ∷ new-parts xs memory ms (suc i) (λ k. ap memory (suc-add i k ∙ sym (add-suc i k)) ∙ e (suc k)) (λ q y h. n (suc q) y h) j)
 
 new-channels : (cs : List Queue) → ((c : ℕ) (q : Queue) → nth cs c ≡ Some q → sentsOf q ≡ []) → map sentsOf cs ≡ replicate (length (map planOf cs)) []
 new-channels [] h = refl
@@ -83,9 +83,9 @@ module _ {X : Type 0} where
       (P : X → Type 0) (xs : List X) (q : ℕ) (y : X) → ((j : ℕ) (x : X) → j < q → nth xs j ≡ Some x → P x) → P y → (j : ℕ) (x : X) → j < q + 1 → nth (set xs q y) j ≡ Some x → P x
   each-more P xs q y below here j x h e =
       ⊎-elim
-        (λ (same : j ≡ q). subst P (nth-set-same xs q y x (subst (λ k. nth (set xs q y) k ≡ Some x) same e)) here)
-        (λ (ne : j ≢ q). below j x (omega arith) (sym (nth-set-other xs q j y ne) ∙ e))
-        (cases-eq j q)
+      (λ (same : j ≡ q). subst P (nth-set-same xs q y x (subst (λ k. nth (set xs q y) k ≡ Some x) same e)) here)
+      (λ (ne : j ≢ q). below j x (omega arith) (sym (nth-set-other xs q j y ne) ∙ e))
+      (cases-eq j q)
 
   pub each-all : (P : X → Type 0) (xs : List X) (q : ℕ) → length xs ≤ q → ((j : ℕ) (x : X) → j < q → nth xs j ≡ Some x → P x) → (j : ℕ) (x : X) → nth xs j ≡ Some x → P x
   each-all P xs q l h j x e = h j x (omega (arith, nth-some-below xs j x e)) e

@@ -52,23 +52,23 @@ seen-there cs q c old h =
 pub seen-cases : (cs : List Queue) (q c : ℕ) (old : Queue) → nth cs c ≡ Some old → (seenOf cs q c ≡ Some (sightOf old)) ⊎ ((seenOf cs q c ≡ None) × (ends old q ≡ false))
 seen-cases cs q c old h =
     ⊎-elim
-      (λ (e : ends old q ≡ true). inl (seen-there cs q c old h ∙ cond-true _ _ _ e))
-      (λ (e : ends old q ≡ false). inr (seen-there cs q c old h ∙ cond-false _ _ _ e, e))
-      (cases-bool (ends old q))
+    (λ (e : ends old q ≡ true). inl (seen-there cs q c old h ∙ cond-true _ _ _ e))
+    (λ (e : ends old q ≡ false). inr (seen-there cs q c old h ∙ cond-false _ _ _ e, e))
+    (cases-bool (ends old q))
 
 -- ---- a send
 
 module _ (q t : ℕ) (sn : ℕ → Option Sight) (x : Part Core) (i : ℕ) (then : Answer → Core) (c a n : ℕ) where
   part-by : (s : Sight) (b : Bool) (ms : List Sent)
       → cond b (record { part = changing x i (goesOn (then (Value 0))); change = becomes c ms }) (refused x i then) .part
-        ≡ changing x i (goesOn (then (cond b (record { answer = Value 0; messages = ms; memory = x .memory }) (refusing s (x .memory)) .answer)))
+      ≡ changing x i (goesOn (then (cond b (record { answer = Value 0; messages = ms; memory = x .memory }) (refusing s (x .memory)) .answer)))
   unfolding refused refusing
   part-by s true ms = refl
   part-by s false ms = refl
 
   change-by : (s : Sight) (b : Bool) (ms : List Sent) (cs : List (List Sent)) → getD cs c [] ≡ s .messages
       → changed (cond b (record { part = changing x i (goesOn (then (Value 0))); change = becomes c ms }) (refused x i then) .change) cs
-        ≡ set cs c (cond b (record { answer = Value 0; messages = ms; memory = x .memory }) (refusing s (x .memory)) .messages)
+      ≡ set cs c (cond b (record { answer = Value 0; messages = ms; memory = x .memory }) (refusing s (x .memory)) .messages)
   unfolding refused refusing changed
   change-by s true ms cs h = refl
   change-by s false ms cs h = sym (set-same cs c (s .messages) [] h)
@@ -95,7 +95,7 @@ module _ (q t : ℕ) (sn : ℕ → Option Sight) (x : Part Core) (i : ℕ) (then
 
   taken-part : (s : Sight) (m : Sent) (ms : List Sent) (b : Bool)
       → cond b (taken-step s m ms) (refused x i then) .part
-        ≡ changing (withMemory x (cond b (taken-exchange s m ms) (refusing s (x .memory)) .memory)) i (goesOn (then (cond b (taken-exchange s m ms) (refusing s (x .memory)) .answer)))
+      ≡ changing (withMemory x (cond b (taken-exchange s m ms) (refusing s (x .memory)) .memory)) i (goesOn (then (cond b (taken-exchange s m ms) (refusing s (x .memory)) .answer)))
   unfolding refused refusing withMemory
   taken-part s m ms true = refl
   taken-part s m ms false = refl
@@ -126,15 +126,15 @@ module _ (q t : ℕ) (sn : ℕ → Option Sight) (x : Part Core) (i : ℕ) (then
 
   for-part : (s : Sight) (b : Bool)
       → cond b (takesFirst q t sn x i then c a s (s .messages)) (refused x i then) .part
-        ≡ changing (withMemory x (cond b (collectingFirst t s (x .memory) a (s .messages)) (refusing s (x .memory)) .memory)) i
-            (goesOn (then (cond b (collectingFirst t s (x .memory) a (s .messages)) (refusing s (x .memory)) .answer)))
+      ≡ changing (withMemory x (cond b (collectingFirst t s (x .memory) a (s .messages)) (refusing s (x .memory)) .memory)) i
+      (goesOn (then (cond b (collectingFirst t s (x .memory) a (s .messages)) (refusing s (x .memory)) .answer)))
   unfolding refused refusing withMemory
   for-part s true = first-part s (s .messages)
   for-part s false = refl
 
   for-change : (s : Sight) (b : Bool) (cs : List (List Sent)) → getD cs c [] ≡ s .messages
       → changed (cond b (takesFirst q t sn x i then c a s (s .messages)) (refused x i then) .change) cs
-        ≡ set cs c (cond b (collectingFirst t s (x .memory) a (s .messages)) (refusing s (x .memory)) .messages)
+      ≡ set cs c (cond b (collectingFirst t s (x .memory) a (s .messages)) (refusing s (x .memory)) .messages)
   unfolding refused refusing changed
   for-change s true cs h = first-change s (s .messages) cs h
   for-change s false cs h = sym (set-same cs c (s .messages) [] h)
@@ -155,11 +155,11 @@ module _ (call : Part Core → ℕ → (Answer → Core) → Step Core) (m : Lis
   pub exchange-refused : (cs : List Queue) → ((x : Part Core) (i : ℕ) (then : Answer → Core) → call (withMemory x m) i then ≡ refused (withMemory x m) i then) → Exchanged call m m cs cs (Value no)
   unfolding refused changed
   exchange-refused cs h =
-      record
-        { part = λ x i then. ap (λ (st : Step Core). st .part) (h x i then)
-        ; change = λ x i then. ap (λ (st : Step Core). changed (st .change) (channelsOf cs)) (h x i then)
-        ; plans = refl
-        }
+      record {
+        part = λ x i then. ap (λ (st : Step Core). st .part) (h x i then);
+        change = λ x i then. ap (λ (st : Step Core). changed (st .change) (channelsOf cs)) (h x i then);
+        plans = refl;
+      }
 
   pub exchange-done :
       (cs : List Queue) (c : ℕ) (old new : Queue) (r : Answer) (m′ : List ℕ) (e : Exchange) → nth cs c ≡ Some old → new .plan ≡ old .plan
@@ -169,14 +169,14 @@ module _ (call : Part Core → ℕ → (Answer → Core) → Step Core) (m : Lis
       → Exchanged call m m′ cs (set cs c new) r
   unfolding plansOf channelsOf planOf
   exchange-done cs c old new r m′ e h p f g k =
-      record
-        { part = λ x i then. g x i then ∙ ap (λ (z : Exchange). changing (withMemory x (z .memory)) i (goesOn (then (z .answer)))) (sym f)
-        ; change = λ x i then.
+      record {
+        part = λ x i then. g x i then ∙ ap (λ (z : Exchange). changing (withMemory x (z .memory)) i (goesOn (then (z .answer)))) (sym f);
+        change = λ x i then.
             k x i then (map sentsOf cs) (getD-map-some sentsOf cs c old [] h)
             ∙ ap (λ (z : Exchange). set (map sentsOf cs) c (z .messages)) (sym f)
-            ∙ sym (map-set sentsOf cs c new)
-        ; plans = map-set planOf cs c new ∙ ap (set (map planOf cs) c) p ∙ set-same (map planOf cs) c (old .plan) noChannel (getD-map-some planOf cs c old noChannel h)
-        }
+            ∙ sym (map-set sentsOf cs c new);
+        plans = map-set planOf cs c new ∙ ap (set (map planOf cs) c) p ∙ set-same (map planOf cs) c (old .plan) noChannel (getD-map-some planOf cs c old noChannel h);
+      }
 
 module _ (q t : ℕ) (cs : List Queue) (m : List ℕ) (c a : ℕ) where
   abbrev pub sending-call : ℕ → Part Core → ℕ → (Answer → Core) → Step Core
@@ -206,26 +206,26 @@ module _ (q t : ℕ) (cs : List Queue) (m : List ℕ) (c a : ℕ) where
   unfolding called withMemory sightOf sends refused refusing changed
   send-there n old new r h p f =
       exchange-done (sending-call n) m cs c old new r m (posting q t (sightOf old) m a n) h p f
-        (λ x i then.
-          ⊎-elim
-            (λ (e : seenOf cs q c ≡ Some (sightOf old)).
-              ap (λ o. sends q t (seenOf cs q) (withMemory x m) i then c a n o .part) e
-              ∙ sends-part q t (seenOf cs q) (withMemory x m) i then c a n (sightOf old)
-              ∙ ap (λ mm. changing (withMemory x mm) i (goesOn (then (posting q t (sightOf old) m a n .answer)))) (ap (λ (z : Exchange). z .memory) f))
-            (λ (e : (seenOf cs q c ≡ None) × (ends old q ≡ false)).
-              ap (λ o. sends q t (seenOf cs q) (withMemory x m) i then c a n o .part) (e .0)
-              ∙ ap (λ (z : Exchange). changing (withMemory x (z .memory)) i (goesOn (then (z .answer)))) (send-closed n old (e .1)))
-            (seen-cases cs q c old h))
-        (λ x i then ds g.
-          ⊎-elim
-            (λ (e : seenOf cs q c ≡ Some (sightOf old)).
-              ap (λ o. changed (sends q t (seenOf cs q) (withMemory x m) i then c a n o .change) ds) e
-              ∙ sends-change q t (seenOf cs q) (withMemory x m) i then c a n (sightOf old) ds g)
-            (λ (e : (seenOf cs q c ≡ None) × (ends old q ≡ false)).
-              ap (λ o. changed (sends q t (seenOf cs q) (withMemory x m) i then c a n o .change) ds) (e .0)
-              ∙ sym (set-same ds c (sentsOf old) [] g)
-              ∙ ap (λ (z : Exchange). set ds c (z .messages)) (send-closed n old (e .1)))
-            (seen-cases cs q c old h))
+      (λ x i then.
+      ⊎-elim
+      (λ (e : seenOf cs q c ≡ Some (sightOf old)).
+      ap (λ o. sends q t (seenOf cs q) (withMemory x m) i then c a n o .part) e
+      ∙ sends-part q t (seenOf cs q) (withMemory x m) i then c a n (sightOf old)
+      ∙ ap (λ mm. changing (withMemory x mm) i (goesOn (then (posting q t (sightOf old) m a n .answer)))) (ap (λ (z : Exchange). z .memory) f))
+      (λ (e : (seenOf cs q c ≡ None) × (ends old q ≡ false)).
+      ap (λ o. sends q t (seenOf cs q) (withMemory x m) i then c a n o .part) (e .0)
+      ∙ ap (λ (z : Exchange). changing (withMemory x (z .memory)) i (goesOn (then (z .answer)))) (send-closed n old (e .1)))
+      (seen-cases cs q c old h))
+      (λ x i then ds g.
+      ⊎-elim
+      (λ (e : seenOf cs q c ≡ Some (sightOf old)).
+      ap (λ o. changed (sends q t (seenOf cs q) (withMemory x m) i then c a n o .change) ds) e
+      ∙ sends-change q t (seenOf cs q) (withMemory x m) i then c a n (sightOf old) ds g)
+      (λ (e : (seenOf cs q c ≡ None) × (ends old q ≡ false)).
+      ap (λ o. changed (sends q t (seenOf cs q) (withMemory x m) i then c a n o .change) ds) (e .0)
+      ∙ sym (set-same ds c (sentsOf old) [] g)
+      ∙ ap (λ (z : Exchange). set ds c (z .messages)) (send-closed n old (e .1)))
+      (seen-cases cs q c old h))
 
   -- A channel of which the partition has no end refuses it.
   take-closed : (old : Queue) → ends old q ≡ false → refusing (sightOf old) m ≡ collecting q t (sightOf old) m a
@@ -238,22 +238,22 @@ module _ (q t : ℕ) (cs : List Queue) (m : List ℕ) (c a : ℕ) where
   unfolding called withMemory sightOf takes refused refusing changed
   take-there old new r m′ h p f =
       exchange-done taking-call m cs c old new r m′ (collecting q t (sightOf old) m a) h p f
-        (λ x i then.
-          ⊎-elim
-            (λ (e : seenOf cs q c ≡ Some (sightOf old)).
-              ap (λ o. takes q t (seenOf cs q) (withMemory x m) i then c a o .part) e
-              ∙ takes-part q t (seenOf cs q) (withMemory x m) i then c a (sightOf old))
-            (λ (e : (seenOf cs q c ≡ None) × (ends old q ≡ false)).
-              ap (λ o. takes q t (seenOf cs q) (withMemory x m) i then c a o .part) (e .0)
-              ∙ ap (λ (z : Exchange). changing (withMemory x (z .memory)) i (goesOn (then (z .answer)))) (take-closed old (e .1)))
-            (seen-cases cs q c old h))
-        (λ x i then ds g.
-          ⊎-elim
-            (λ (e : seenOf cs q c ≡ Some (sightOf old)).
-              ap (λ o. changed (takes q t (seenOf cs q) (withMemory x m) i then c a o .change) ds) e
-              ∙ takes-change q t (seenOf cs q) (withMemory x m) i then c a (sightOf old) ds g)
-            (λ (e : (seenOf cs q c ≡ None) × (ends old q ≡ false)).
-              ap (λ o. changed (takes q t (seenOf cs q) (withMemory x m) i then c a o .change) ds) (e .0)
-              ∙ sym (set-same ds c (sentsOf old) [] g)
-              ∙ ap (λ (z : Exchange). set ds c (z .messages)) (take-closed old (e .1)))
-            (seen-cases cs q c old h))
+      (λ x i then.
+      ⊎-elim
+      (λ (e : seenOf cs q c ≡ Some (sightOf old)).
+      ap (λ o. takes q t (seenOf cs q) (withMemory x m) i then c a o .part) e
+      ∙ takes-part q t (seenOf cs q) (withMemory x m) i then c a (sightOf old))
+      (λ (e : (seenOf cs q c ≡ None) × (ends old q ≡ false)).
+      ap (λ o. takes q t (seenOf cs q) (withMemory x m) i then c a o .part) (e .0)
+      ∙ ap (λ (z : Exchange). changing (withMemory x (z .memory)) i (goesOn (then (z .answer)))) (take-closed old (e .1)))
+      (seen-cases cs q c old h))
+      (λ x i then ds g.
+      ⊎-elim
+      (λ (e : seenOf cs q c ≡ Some (sightOf old)).
+      ap (λ o. changed (takes q t (seenOf cs q) (withMemory x m) i then c a o .change) ds) e
+      ∙ takes-change q t (seenOf cs q) (withMemory x m) i then c a (sightOf old) ds g)
+      (λ (e : (seenOf cs q c ≡ None) × (ends old q ≡ false)).
+      ap (λ o. changed (takes q t (seenOf cs q) (withMemory x m) i then c a o .change) ds) (e .0)
+      ∙ sym (set-same ds c (sentsOf old) [] g)
+      ∙ ap (λ (z : Exchange). set ds c (z .messages)) (take-closed old (e .1)))
+      (seen-cases cs q c old h))

@@ -49,9 +49,9 @@ memory-put [] bs ys q h l e = refl
 memory-put (p ∷ ps) bs ys zero h l e = λ j. take-whole bs ys (p * 4096) (omega arith) j ∷ memoriesIn ps (drop-whole bs ys (p * 4096) (omega arith) j)
 memory-put (p ∷ ps) bs ys (suc q) h l e =
     (λ j.
-      take-put bs ys (p * 4096) (place ps q) l j
-      ∷ (ap (memoriesIn ps) (drop-put bs ys (p * 4096) (place ps q) l)
-        ∙ memory-put ps (drop (p * 4096) bs) ys q (omega arith) (simp length-drop (omega arith)) (e ∙ sym (simp length-drop (omega arith)))) j)
+    take-put bs ys (p * 4096) (place ps q) l j
+    ∷ (ap (memoriesIn ps) (drop-put bs ys (p * 4096) (place ps q) l)
+    ∙ memory-put ps (drop (p * 4096) bs) ys q (omega arith) (simp length-drop (omega arith)) (e ∙ sym (simp length-drop (omega arith)))) j)
 
 length-memories : (ps bs : List ℕ) → length (memoriesIn ps bs) ≡ length ps
 unfolding memoriesIn
@@ -72,43 +72,43 @@ module _ (ps bs : List ℕ) (q a e : ℕ) (begin : a ≡ min (place ps q) (lengt
   pub region-is : getD (memoriesIn ps bs) q [] ≡ between a e bs
   region-is =
       ⊎-elim
-        (λ (h : q < length ps). memory-at ps bs q h ∙ cut bs (place ps q) (getD ps q 0 * 4096) a e begin end)
-        (λ (h : length ps ≤ q).
-          let none : e - a ≡ 0 = omega (arith, getD-past ps q 0 h) in
-          getD-past (memoriesIn ps bs) q [] (omega (arith, length-memories ps bs)) ∙ ap (λ n. take n (drop a bs)) (sym none))
-        (cases-lt q (length ps))
+      (λ (h : q < length ps). memory-at ps bs q h ∙ cut bs (place ps q) (getD ps q 0 * 4096) a e begin end)
+      (λ (h : length ps ≤ q).
+      let none : e - a ≡ 0 = omega (arith, getD-past ps q 0 h) in
+      getD-past (memoriesIn ps bs) q [] (omega (arith, length-memories ps bs)) ∙ ap (λ n. take n (drop a bs)) (sym none))
+      (cases-lt q (length ps))
 
   -- Either there is such a memory, and it begins in the row, or the part is empty.
   there : (ys : List ℕ) → length ys ≡ e - a → ((q < length ps) × (a ≡ place ps q) × (memoriesIn ps (put bs a ys) ≡ set (memoriesIn ps bs) q ys)) ⊎ ((ys ≡ []) × (put bs a ys ≡ bs))
   there ys l =
       ⊎-elim
-        (λ (h : q < length ps).
-          ⊎-elim
-            (λ (o : length bs < place ps q). let none : length ys ≡ 0 = omega arith in inr (nil-from-length ys none, put-nothing bs ys a none))
-            (λ (o : place ps q ≤ length bs).
-              let same : a ≡ place ps q = omega arith in
-              inl (h, same, ap (λ n. memoriesIn ps (put bs n ys)) same ∙ memory-put ps bs ys q h (omega arith) (omega arith)))
-            (cases-lt (length bs) (place ps q)))
-        (λ (h : length ps ≤ q). let none : length ys ≡ 0 = omega (arith, getD-past ps q 0 h) in inr (nil-from-length ys none, put-nothing bs ys a none))
-        (cases-lt q (length ps))
+      (λ (h : q < length ps).
+      ⊎-elim
+      (λ (o : length bs < place ps q). let none : length ys ≡ 0 = omega arith in inr (nil-from-length ys none, put-nothing bs ys a none))
+      (λ (o : place ps q ≤ length bs).
+      let same : a ≡ place ps q = omega arith in
+      inl (h, same, ap (λ n. memoriesIn ps (put bs n ys)) same ∙ memory-put ps bs ys q h (omega arith) (omega arith)))
+      (cases-lt (length bs) (place ps q)))
+      (λ (h : length ps ≤ q). let none : length ys ≡ 0 = omega (arith, getD-past ps q 0 h) in inr (nil-from-length ys none, put-nothing bs ys a none))
+      (cases-lt q (length ps))
 
   pub region-put : (ys : List ℕ) → length ys ≡ e - a → getD (memoriesIn ps (put bs a ys)) q [] ≡ ys
   region-put ys l =
       ⊎-elim
-        (λ (w : (q < length ps) × (a ≡ place ps q) × (memoriesIn ps (put bs a ys) ≡ set (memoriesIn ps bs) q ys)).
-          ap (λ zs. getD zs q []) (w .2) ∙ getD-set-same (memoriesIn ps bs) q ys [] (omega (arith, w .0, length-memories ps bs)))
-        (λ (w : (ys ≡ []) × (put bs a ys ≡ bs)).
-          let none : e - a ≡ 0 = omega (arith, ap length (w .0)) in
-          ap (λ zs. getD (memoriesIn ps zs) q []) (w .1) ∙ region-is ∙ ap (λ n. take n (drop a bs)) none ∙ sym (w .0))
-        (there ys l)
+      (λ (w : (q < length ps) × (a ≡ place ps q) × (memoriesIn ps (put bs a ys) ≡ set (memoriesIn ps bs) q ys)).
+      ap (λ zs. getD zs q []) (w .2) ∙ getD-set-same (memoriesIn ps bs) q ys [] (omega (arith, w .0, length-memories ps bs)))
+      (λ (w : (ys ≡ []) × (put bs a ys ≡ bs)).
+      let none : e - a ≡ 0 = omega (arith, ap length (w .0)) in
+      ap (λ zs. getD (memoriesIn ps zs) q []) (w .1) ∙ region-is ∙ ap (λ n. take n (drop a bs)) none ∙ sym (w .0))
+      (there ys l)
 
   pub region-other : (ys : List ℕ) (j : ℕ) → length ys ≡ e - a → j ≢ q → getD (memoriesIn ps (put bs a ys)) j [] ≡ getD (memoriesIn ps bs) j []
   region-other ys j l h =
       ⊎-elim
-        (λ (w : (q < length ps) × (a ≡ place ps q) × (memoriesIn ps (put bs a ys) ≡ set (memoriesIn ps bs) q ys)).
-          ap (λ zs. getD zs j []) (w .2) ∙ getD-set-other (memoriesIn ps bs) q j ys [] h)
-        (λ (w : (ys ≡ []) × (put bs a ys ≡ bs)). ap (λ zs. getD (memoriesIn ps zs) j []) (w .1))
-        (there ys l)
+      (λ (w : (q < length ps) × (a ≡ place ps q) × (memoriesIn ps (put bs a ys) ≡ set (memoriesIn ps bs) q ys)).
+      ap (λ zs. getD zs j []) (w .2) ∙ getD-set-other (memoriesIn ps bs) q j ys [] h)
+      (λ (w : (ys ≡ []) × (put bs a ys ≡ bs)). ap (λ zs. getD (memoriesIn ps zs) j []) (w .1))
+      (there ys l)
 
 -- ---- the sum of the pages before
 
@@ -133,6 +133,6 @@ place-past (p ∷ ps) (suc q) h = ap (λ n. p * 4096 + n) (place-past ps q (le-o
 pub place-min : (ps : List ℕ) (q i : ℕ) → i ≡ min q (length ps) → place ps i ≡ place ps q
 place-min ps q i e =
     ⊎-elim
-      (λ (h : q < length ps). let same : i ≡ q = omega arith in ap (place ps) same)
-      (λ (h : length ps ≤ q). let same : i ≡ length ps = omega arith in ap (place ps) same ∙ sym (place-past ps q h))
-      (cases-lt q (length ps))
+    (λ (h : q < length ps). let same : i ≡ q = omega arith in ap (place ps) same)
+    (λ (h : length ps ≤ q). let same : i ≡ length ps = omega arith in ap (place ps) same ∙ sym (place-past ps q h))
+    (cases-lt q (length ps))

@@ -39,19 +39,20 @@ module _ {X : Type 0} where
       (xs ys : List X) (n : ℕ) → length ys ≡ length xs → n ≤ length xs → ((j : ℕ) (d : X) → j + 1 < n → getD ys j d ≡ getD xs (j + 1) d) → take (n - 1) ys ≡ drop 1 (take n xs)
   moved-down xs ys n l le h =
       same-lists _ _ (simp (length-take, length-drop, length-take) (omega arith))
-        (λ k d lt.
-          let b : k < n - 1 = omega (arith, length-take (n - 1) ys) in
-          rw (getD-take (n - 1) ys k d b) (h k d (omega arith) ∙ sym (getD-drop 1 (take n xs) k d ∙ getD-take n xs (1 + k) d (omega arith) ∙ ap (λ j. getD xs j d) (omega arith))))
+      (λ k d lt.
+      let b : k < n - 1 = omega (arith, length-take (n - 1) ys) in
+      rw (getD-take (n - 1) ys k d b) (h k d (omega arith) ∙ sym (getD-drop 1 (take n xs) k d ∙ getD-take n xs (1 + k) d (omega arith) ∙ ap (λ j. getD xs j d) (omega arith))))
 
   -- One more has moved down.
   pub moving-down :
       (xs ys : List X) (k : ℕ) (x : X) → length ys ≡ length xs → 1 ≤ k → k < length xs → ((j : ℕ) (d : X) → j + 1 < k → getD ys j d ≡ getD xs (j + 1) d)
       → ((j : ℕ) (d : X) → k ≤ j + 1 → getD ys j d ≡ getD xs j d)
       → ((j : ℕ) (d : X) → j + 1 < k + 1 → getD (set ys (k - 1) (getD ys k x)) j d ≡ getD xs (j + 1) d)
-        × ((j : ℕ) (d : X) → k + 1 ≤ j + 1 → getD (set ys (k - 1) (getD ys k x)) j d ≡ getD xs j d)
-  moving-down xs ys k x l one lt below above =
-      ( (λ j d h. ⊎-elim (λ (e : j ≡ k - 1). here j d e) (λ (ne : j ≢ k - 1). getD-set-other ys (k - 1) j (getD ys k x) d ne ∙ below j d (omega arith)) (cases-eq j (k - 1)))
-      , (λ j d h. let ne : j ≢ k - 1 = omega arith in getD-set-other ys (k - 1) j (getD ys k x) d ne ∙ above j d (omega arith)) )
+      × ((j : ℕ) (d : X) → k + 1 ≤ j + 1 → getD (set ys (k - 1) (getD ys k x)) j d ≡ getD xs j d)
+  moving-down xs ys k x l one lt below above = (
+    (λ j d h. ⊎-elim (λ (e : j ≡ k - 1). here j d e) (λ (ne : j ≢ k - 1). getD-set-other ys (k - 1) j (getD ys k x) d ne ∙ below j d (omega arith)) (cases-eq j (k - 1))),
+    (λ j d h. let ne : j ≢ k - 1 = omega arith in getD-set-other ys (k - 1) j (getD ys k x) d ne ∙ above j d (omega arith)),
+  )
     where
       here : (j : ℕ) (d : X) → j ≡ k - 1 → getD (set ys (k - 1) (getD ys k x)) j d ≡ getD xs (j + 1) d
       here j d e =

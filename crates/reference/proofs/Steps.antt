@@ -46,8 +46,8 @@ module _ (step : List (ℕ × ℕ) → Step Core) (t : ℕ) (x y : Partition) (m
   unfolding said changed
   did-quiet p rs hs =
       did step t x y m h i f cs cs None
-        (λ s. ap (λ (st : Step Core). st .part) (p s) ∙ ap (λ z. changing (record { memory = m; tasks = runsOf x; heard = h; shown = z }) i f) (sym (append-nil s)))
-        rs hs (λ s. ap (λ (st : Step Core). changed (st .change) (channelsOf cs)) (p s)) refl
+      (λ s. ap (λ (st : Step Core). st .part) (p s) ∙ ap (λ z. changing (record { memory = m; tasks = runsOf x; heard = h; shown = z }) i f) (sym (append-nil s)))
+      rs hs (λ s. ap (λ (st : Step Core). changed (st .change) (channelsOf cs)) (p s)) refl
 
 -- Nothing was done.
 pub did-nothing :
@@ -55,22 +55,22 @@ pub did-nothing :
     → ((s : List (ℕ × ℕ)) → step s ≡ record { part = partOf y m s; change = none }) → Did step t y m cs cs None
 unfolding said changed
 did-nothing step t y m cs p =
-    record
-      { part = λ s. ap (partOf y m) (append-nil s) ∙ sym (ap (λ (st : Step Core). st .part) (p s))
-      ; change = λ s. sym (ap (λ (st : Step Core). changed (st .change) (channelsOf cs)) (p s))
-      ; plans = refl
-      }
+    record {
+      part = λ s. ap (partOf y m) (append-nil s) ∙ sym (ap (λ (st : Step Core). st .part) (p s));
+      change = λ s. sym (ap (λ (st : Step Core). changed (st .change) (channelsOf cs)) (p s));
+      plans = refl;
+    }
 
 -- The same was done under another name.
 pub did-as :
     (step other : List (ℕ × ℕ) → Step Core) (t : ℕ) (y : Partition) (m : List ℕ) (cs ds : List Queue) (r : Option ℕ)
     → ((s : List (ℕ × ℕ)) → other s ≡ step s) → Did step t y m cs ds r → Did other t y m cs ds r
 did-as step other t y m cs ds r e d =
-    record
-      { part = λ s. d .part s ∙ sym (ap (λ (st : Step Core). st .part) (e s))
-      ; change = λ s. d .change s ∙ sym (ap (λ (st : Step Core). changed (st .change) (channelsOf cs)) (e s))
-      ; plans = d .plans
-      }
+    record {
+      part = λ s. d .part s ∙ sym (ap (λ (st : Step Core). st .part) (e s));
+      change = λ s. d .change s ∙ sym (ap (λ (st : Step Core). changed (st .change) (channelsOf cs)) (e s));
+      plans = d .plans;
+    }
 
 -- The same memory under another name.
 pub did-memory :
@@ -115,7 +115,7 @@ pub first-is-ready : (y : Partition) (i : ℕ) (run : Running) → firstReady (t
 unfolding runsOf
 first-is-ready y i run e n =
     let goes : GoesFirst (tasksOf y) (runsOf y) i =
-          subst (λ o. Cases o ((k : ℕ) → ReadyAt (runsOf y) k → ⊥) (λ j. GoesFirst (tasksOf y) (runsOf y) j)) e (first-ready (tasksOf y) (runsOf y)) in
+    subst (λ o. Cases o ((k : ℕ) → ReadyAt (runsOf y) k → ⊥) (λ j. GoesFirst (tasksOf y) (runsOf y) j)) e (first-ready (tasksOf y) (runsOf y)) in
     let there : nth (map (λ (r : Run Core). r .state) (runsOf y)) i ≡ Some (runOf run .state) = nth-map-some (λ (r : Run Core). r .state) (runsOf y) i (runOf run) (nth-map-some runOf (held (y .tasks)) i run n) in
     let state : runOf run .state ≡ Ready = same-some (runOf run .state) Ready (sym there ∙ goes .ready) in
     is-ready (runOf run .state) state

@@ -58,8 +58,8 @@ module _ (s : ℕ) where
 pub within-round : (t n : ℕ) → t < 2 ^ 40 → t % min n 18446744073709551615 ≡ t % n
 within-round t n h =
     ⊎-elim
-      (λ (le : n < 18446744073709551615). let e : min n 18446744073709551615 ≡ n = omega arith in ap (λ m. t % m) e)
-      (λ (ge : 18446744073709551615 ≤ n).
-        let e : min n 18446744073709551615 ≡ 18446744073709551615 = omega arith in
-        ap (λ m. t % m) e ∙ mod-eq-of-lt (omega arith) ∙ sym (mod-eq-of-lt (omega arith)))
-      (cases-lt n 18446744073709551615)
+    (λ (le : n < 18446744073709551615). let e : min n 18446744073709551615 ≡ n = omega arith in ap (λ m. t % m) e)
+    (λ (ge : 18446744073709551615 ≤ n).
+    let e : min n 18446744073709551615 ≡ 18446744073709551615 = omega arith in
+    ap (λ m. t % m) e ∙ mod-eq-of-lt (omega arith) ∙ sym (mod-eq-of-lt (omega arith)))
+    (cases-lt n 18446744073709551615)

@@ -66,8 +66,8 @@ parts-set (x ∷ xs) m n s r i (suc q) y em es =
     let over : suc i + q ≡ i + suc q = omega arith in
     (λ k. partOf x (em i here k) (es i here k) ∷ partsOf (set xs q y) n r (suc i))
     ∙ ap (λ zs. partOf x (m i) (s i) ∷ zs)
-        (parts-set xs m n s r (suc i) q y (λ j h. em j (λ e. h (e ∙ sym over))) (λ j h. es j (λ e. h (e ∙ sym over)))
-        ∙ ap (λ k. set (partsOf xs m s (suc i)) q (partOf y (n k) (r k))) over)
+    (parts-set xs m n s r (suc i) q y (λ j h. em j (λ e. h (e ∙ sym over))) (λ j h. es j (λ e. h (e ∙ sym over)))
+    ∙ ap (λ k. set (partsOf xs m s (suc i)) q (partOf y (n k) (r k))) over)
 
 -- The same, counted from 0.
 module _ (xs : List Partition) (m n : ℕ → List ℕ) (s r : ℕ → List (ℕ × ℕ)) (q : ℕ) where
@@ -93,7 +93,7 @@ hearing-is x y m s b e h =
   where
     by : (t : Bool)
         → _≡_ {A = Part Core} (record { memory = m; tasks = map runOf (held (x .tasks)); heard = cond t (heardOf x ++ b ∷ []) (heardOf x); shown = s })
-            (cond t (record { memory = m; tasks = map runOf (held (x .tasks)); heard = heardOf x ++ b ∷ []; shown = s }) (record { memory = m; tasks = map runOf (held (x .tasks)); heard = heardOf x; shown = s }))
+        (cond t (record { memory = m; tasks = map runOf (held (x .tasks)); heard = heardOf x ++ b ∷ []; shown = s }) (record { memory = m; tasks = map runOf (held (x .tasks)); heard = heardOf x; shown = s }))
     by true = refl
     by false = refl
 
@@ -107,8 +107,8 @@ module _ (t : ℕ) (m : ℕ → List ℕ) (cs : List (List Sent)) (s : ℕ → L
   unfolding came part
   came-there xs a rest x y h e f =
       ap (λ ps. came rest (record { time = t; parts = ps; channels = cs }))
-        (part-put xs m m s s (a .partition) y (λ j g. refl) (λ j g. refl)
-        ∙ ap (set (partsOf xs m s 0) (a .partition)) (hearing-is x y (m (a .partition)) (s (a .partition)) (a .byte) e f ∙ sym (ap (hearing (a .byte)) (part-at xs m m s s (a .partition) x h))))
+      (part-put xs m m s s (a .partition) y (λ j g. refl) (λ j g. refl)
+      ∙ ap (set (partsOf xs m s 0) (a .partition)) (hearing-is x y (m (a .partition)) (s (a .partition)) (a .byte) e f ∙ sym (ap (hearing (a .byte)) (part-at xs m m s s (a .partition) x h))))
 
   pub came-nowhere : (xs : List Partition) (a : Arrival) (rest : List Arrival) → length xs ≤ a .partition → came rest (at xs) ≡ came (a ∷ rest) (at xs)
   unfolding came
@@ -143,10 +143,10 @@ module _ (system t : ℕ) (xs : List Partition) (ms : List (List ℕ)) (cs : Lis
   worked-nowhere h =
       let out : length (partsOf xs memory s 0) ≤ q = omega (arith, length-partsOf xs memory s 0) in
       ap (λ ps. record { time = t; parts = ps; channels = channelsOf cs })
-        (parts-same xs memory memory s (showing s q []) 0 (λ j g. refl) (λ j g. shown-none s q j) ∙ sym (set-past (partsOf xs memory s 0) q noPart out))
+      (parts-same xs memory memory s (showing s q []) 0 (λ j g. refl) (λ j g. shown-none s q j) ∙ sym (set-past (partsOf xs memory s 0) q noPart out))
       ∙ sym
-          (ap (λ z. applied (worldOf t xs ms cs s) q (partTick rv32i q t (seen (plansOf cs) q (worldOf t xs ms cs s)) (getD (map tasksOf xs) q []) z))
-            (getD-past (partsOf xs memory s 0) q noPart out))
+      (ap (λ z. applied (worldOf t xs ms cs s) q (partTick rv32i q t (seen (plansOf cs) q (worldOf t xs ms cs s)) (getD (map tasksOf xs) q []) z))
+      (getD-past (partsOf xs memory s 0) q noPart out))
 
   pub worked-there :
       (ns : List (List ℕ)) (ds : List Queue) (x y : Partition) (r : Option ℕ) → nth xs q ≡ Some x
@@ -155,17 +155,17 @@ module _ (system t : ℕ) (xs : List Partition) (ms : List (List ℕ)) (cs : Lis
   unfolding worldOf work applied part planIn seenOf seen messages
   worked-there ns ds x y r h d e =
       (λ j.
-        record
-          { time = t
-          ; parts =
-              ( part-put xs memory (λ k. getD ns k []) s (showing s q (said t r)) q y e (λ k g. shown-other s q (said t r) k g)
-              ∙ ap (λ z. set (partsOf xs memory s 0) q (partOf y (getD ns q []) z)) (shown-more s q (said t r))
-              ∙ ap (set (partsOf xs memory s 0) q) (d .part (s q)) ) j
-          ; channels = d .change (s q) j
-          })
+      record {
+        time = t;
+        parts =
+            (part-put xs memory (λ k. getD ns k []) s (showing s q (said t r)) q y e (λ k g. shown-other s q (said t r) k g)
+            ∙ ap (λ z. set (partsOf xs memory s 0) q (partOf y (getD ns q []) z)) (shown-more s q (said t r))
+            ∙ ap (set (partsOf xs memory s 0) q) (d .part (s q))) j;
+        channels = d .change (s q) j;
+      })
       ∙ sym
-          (ap (λ ks. applied (worldOf t xs ms cs s) q (partTick rv32i q t (seen (plansOf cs) q (worldOf t xs ms cs s)) ks (getD (partsOf xs memory s 0) q noPart))) (getD-map-some tasksOf xs q x [] h)
-          ∙ ap (λ z. applied (worldOf t xs ms cs s) q (partTick rv32i q t (seen (plansOf cs) q (worldOf t xs ms cs s)) (tasksOf x) z)) (part-at xs memory memory s s q x h))
+      (ap (λ ks. applied (worldOf t xs ms cs s) q (partTick rv32i q t (seen (plansOf cs) q (worldOf t xs ms cs s)) ks (getD (partsOf xs memory s 0) q noPart))) (getD-map-some tasksOf xs q x [] h)
+      ∙ ap (λ z. applied (worldOf t xs ms cs s) q (partTick rv32i q t (seen (plansOf cs) q (worldOf t xs ms cs s)) (tasksOf x) z)) (part-at xs memory memory s s q x h))
 
   -- The same, with its memory before and after given apart.
   pub worked-with :
@@ -174,9 +174,9 @@ module _ (system t : ℕ) (xs : List Partition) (ms : List (List ℕ)) (cs : Lis
       → worldOf t (set xs q y) ns ds (showing s q (said t r)) ≡ work rv32i (planIn system [] xs cs) (worldOf t xs ms cs s) (Some q)
   worked-with ns ds x y r before behind h eb ea d e =
       worked-there ns ds x y r h
-        (subst (λ z. Did (λ w. partTick rv32i q t (seenOf cs q) (tasksOf x) (partOf x z w)) t y (getD ns q []) cs ds r) (sym eb)
-          (subst (λ z. Did (λ w. partTick rv32i q t (seenOf cs q) (tasksOf x) (partOf x before w)) t y z cs ds r) (sym ea) d))
-        e
+      (subst (λ z. Did (λ w. partTick rv32i q t (seenOf cs q) (tasksOf x) (partOf x z w)) t y (getD ns q []) cs ds r) (sym eb)
+      (subst (λ z. Did (λ w. partTick rv32i q t (seenOf cs q) (tasksOf x) (partOf x before w)) t y z cs ds r) (sym ea) d))
+      e
 
 -- The tasks' plan stays.
 pub plan-kept : (xs : List Partition) (q : ℕ) (x y : Partition) → nth xs q ≡ Some x → tasksOf y ≡ tasksOf x → map tasksOf (set xs q y) ≡ map tasksOf xs
@@ -203,9 +203,9 @@ module _ (system t : ℕ) (ws : List Window) (xs ys : List Partition) (ms : List
   ticked zs ns ds r o a k e f =
       ap (λ n. record { time = n; parts = partsOf zs (λ q. getD ns q []) r 0; channels = channelsOf ds }) (add-one t)
       ∙ ap later
-          (f
-          ∙ work-plan system ws xs ys cs (worldOf t ys ms cs s) o k
-          ∙ (λ j. work rv32i (planIn system ws xs cs) (a j) (e j)))
+      (f
+      ∙ work-plan system ws xs ys cs (worldOf t ys ms cs s) o k
+      ∙ (λ j. work rv32i (planIn system ws xs cs) (a j) (e j)))
 
 -- Nothing shown is nothing more.
 pub showing-none : (s : ℕ → List (ℕ × ℕ)) (q t : ℕ) → showing s q (said t None) ≡ s

@@ -42,12 +42,12 @@ unfoldable pub collectingFirst : ℕ → Sight → List ℕ → ℕ → List Sen
 collectingFirst t s m a [] = refusing s m
 collectingFirst t s m a (x ∷ xs) =
     cond (leb (a + length (x .bytes)) (length m))
-      (record
-        { answer = Message ((t - x .at) % no) (length (x .bytes))
-        ; messages = cond (eqb (s .plan .places) 0) (s .messages) xs
-        ; memory = put m a (x .bytes)
-        })
-      (refusing s m)
+    (record {
+      answer = Message ((t - x .at) % no) (length (x .bytes));
+      messages = cond (eqb (s .plan .places) 0) (s .messages) xs;
+      memory = put m a (x .bytes);
+    })
+    (refusing s m)
 
 unfoldable pub collecting : ℕ → ℕ → Sight → List ℕ → ℕ → Exchange
 collecting q t s m a = cond (eqb (s .plan .to) q) (collectingFirst t s m a (s .messages)) (refusing s m)

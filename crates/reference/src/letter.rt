@@ -3,13 +3,10 @@ ghost use mathlib.Core.Path.{_≡_};
 ghost use Prim.Native.Nat.{_≤_};
 ghost use lib.ListN.{length};
 
-pub mod methods;
-
-/// The most bytes of any message.
-pub const MOST: usize = 1024;
+mod methods;
 
 #[derive(Clone, Copy)]
-pub struct Letter {
+pub(crate) struct Letter {
     sent: u64,
     size: usize,
     bytes: [u8; 1024],

@@ -43,7 +43,14 @@ fn send(
 }
 
 /// Partition q takes the first message of a channel into its memory.
-fn take(channels: &mut [Queue], q: u8, time: u64, memory: &mut [u8], channel: u32, address: u32) -> Answer
+fn take(
+    channels: &mut [Queue],
+    q: u8,
+    time: u64,
+    memory: &mut [u8],
+    channel: u32,
+    address: u32,
+) -> Answer
     ensures value { λ r. ⌜ Exchanged (λ x i then. called q time (seenOf (now (channels .entry)) q) x i (Take channel address) then) (now (memory .entry)) (now (memory .exit)) (now (channels .entry)) (now (channels .exit)) r ⌝ }
 {
     let c = channel as usize;
@@ -96,7 +103,11 @@ fn call(
             resume(part, i, run, Answer::Value((time % 4294967296) as u32));
             None
         }
-        Call::Send { channel, address, length } => {
+        Call::Send {
+            channel,
+            address,
+            length,
+        } => {
             let answer = send(channels, q, time, memory, channel, address, length);
             resume(part, i, run, answer);
             None
@@ -153,7 +164,11 @@ fn instruction(
             part.goes_on(i, run, core);
             None
         }
-        Effect::Stores { kind, address, value } => {
+        Effect::Stores {
+            kind,
+            address,
+            value,
+        } => {
             store(memory, kind, address, value);
             core.go_on();
             part.goes_on(i, run, core);

@@ -2,7 +2,7 @@
 use crate::row::Row;
 use crate::task::Running;
 
-pub mod methods;
+mod methods;
 
 #[derive(Drop)]
 pub struct Partition {

@@ -4,7 +4,7 @@ use crate::row::Row;
 use model::plan::Channel;
 ghost use Prim.Native.Nat.{_≤_};
 
-pub mod methods;
+mod methods;
 
 #[derive(Drop)]
 pub struct Queue {

@@ -3,10 +3,10 @@ ghost use mathlib.Core.Path.{_≡_};
 ghost use Prim.Native.Nat.{_≤_};
 ghost use lib.ListN.{length};
 
-pub mod methods;
+mod methods;
 
 #[derive(Drop)]
-pub struct Row<T: Copy, const N: usize> {
+pub(crate) struct Row<T: Copy, const N: usize> {
     items: [T; N],
     count: usize,
     ghost within: { count ≤ N },

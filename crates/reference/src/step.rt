@@ -108,5 +108,9 @@ pub(crate) fn advance(
     let Some(byte) = turn_of(parts, pages, memory, channels, q, time) else {
         return None;
     };
-    Some(Shown { partition: q, tick: time, byte })
+    Some(Shown {
+        partition: q,
+        tick: time,
+        byte,
+    })
 }

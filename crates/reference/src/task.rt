@@ -5,10 +5,10 @@ use model::plan::Task;
 ghost use Prim.Native.Nat.{_+_, _≤_};
 ghost use Rattle.reference.specs.Spare.{spare};
 
-pub mod methods;
+mod methods;
 
 #[derive(Clone, Copy)]
-pub struct Running {
+pub(crate) struct Running {
     plan: Task,
     state: State,
     core: Registers,

@@ -9,8 +9,8 @@ use Rattle.bytes.proofs.write_u16.Needs as need
 pub returns : need.returns
 returns c =
     let w : c .copy-from-slice .last .self ≡ bytesOf 2 (c .args .v) = c .copy-from-slice .ensures .after ∙ c .to-le-bytes .ensures ∙ bytesOf-2 (c .args .v) in
-    record
-      { after =
+    record {
+      after =
           put-is (c .args .b .now) (c .copy-from-slice .last .self) (c .args .k) _ (omega (arith, ap length w, length-bytesOf 2 (c .args .v)))
-          ∙ ap (put (c .args .b .now) (c .args .k)) w
-      }
+          ∙ ap (put (c .args .b .now) (c .args .k)) w;
+    }

@@ -14,7 +14,11 @@ impl Letter {
     {
         let mut bytes = [0u8; 1024];
         bytes::copy(&mut bytes, 0, from);
-        Letter { sent, size: from.len(), bytes }
+        Letter {
+            sent,
+            size: from.len(),
+            bytes,
+        }
     }
 
     /// When it was sent.

@@ -29,8 +29,16 @@ impl Partition {
         ensures runs { λ r. ⌜ runsOf r ≡ [] ⌝ }
         ensures heard { λ r. ⌜ heardOf r ≡ [] ⌝ }
     {
-        let none = Task { priority: 0, period: 1, deadline: 1, lates: 0 };
-        Partition { tasks: Row::new(Running::new(none, 0)), heard: Row::new(0) }
+        let none = Task {
+            priority: 0,
+            period: 1,
+            deadline: 1,
+            lates: 0,
+        };
+        Partition {
+            tasks: Row::new(Running::new(none, 0)),
+            heard: Row::new(0),
+        }
     }
 
     /// One task more, new; false, and nothing changed, where there are sixteen.

@@ -21,7 +21,10 @@ impl Queue {
         if plan.bytes > 1024 || plan.places > 64 {
             return None;
         }
-        Some(Queue { plan, messages: Row::new(Letter::new(0, &[])) })
+        Some(Queue {
+            plan,
+            messages: Row::new(Letter::new(0, &[])),
+        })
     }
 
     /// Takes all messages away.
@@ -33,7 +36,14 @@ impl Queue {
     }
 
     /// Partition `from` sends so many bytes of its memory.
-    pub(crate) fn send(&mut self, from: u8, time: u64, memory: &[u8], address: u32, length: u32) -> Answer
+    pub(crate) fn send(
+        &mut self,
+        from: u8,
+        time: u64,
+        memory: &[u8],
+        address: u32,
+        length: u32,
+    ) -> Answer
         ensures value { λ r. ⌜ record { answer = r; messages = sentsOf (now (self .exit)); memory = now (memory .entry) } ≡ posting from time (sightOf (now (self .entry))) (now (memory .entry)) address length ⌝ }
         ensures same { λ _. ⌜ now (self .exit) .plan ≡ now (self .entry) .plan ⌝ }
     {
@@ -73,7 +83,10 @@ impl Queue {
         }
         letter.copy_to(memory, start);
         let age = (time.saturating_sub(letter.sent()) % 4294967295) as u32;
-        let answer = Answer::Message { age, length: size as u32 };
+        let answer = Answer::Message {
+            age,
+            length: size as u32,
+        };
         if self.plan.places == 0 {
             return answer;
         }

@@ -11,14 +11,17 @@ ghost use Rattle.reference.specs.Rows.{held};
 
 impl<T: Copy, const N: usize> Row<T, N> {
     /// An empty row. The filler stands in the places that hold nothing.
-    pub fn new(filler: T) -> Row<T, N>
+    pub(crate) fn new(filler: T) -> Row<T, N>
         ensures value { λ r. ⌜ held r ≡ [] ⌝ }
     {
-        Row { items: [filler; N], count: 0 }
+        Row {
+            items: [filler; N],
+            count: 0,
+        }
     }
 
     /// How many things it holds.
-    pub fn len(&self) -> usize
+    pub(crate) fn len(&self) -> usize
         ensures value { λ r. ⌜ r ≡ length (held (now (self .entry))) ⌝ }
         ensures bound { λ r. ⌜ r ≤ N ⌝ }
     {
@@ -26,7 +29,7 @@ impl<T: Copy, const N: usize> Row<T, N> {
     }
 
     /// The thing at a place.
-    pub fn get(&self, i: usize) -> Option<T>
+    pub(crate) fn get(&self, i: usize) -> Option<T>
         ensures value { λ r. ⌜ r ≡ nth (held (now (self .entry))) i ⌝ }
     {
         if i >= self.count {
@@ -36,7 +39,7 @@ impl<T: Copy, const N: usize> Row<T, N> {
     }
 
     /// Puts another thing at a place that holds one.
-    pub fn put(&mut self, i: usize, x: T)
+    pub(crate) fn put(&mut self, i: usize, x: T)
         ensures after { λ _. ⌜ held (now (self .exit)) ≡ set (held (now (self .entry))) i x ⌝ }
     {
         if i < self.count {
@@ -45,7 +48,7 @@ impl<T: Copy, const N: usize> Row<T, N> {
     }
 
     /// One thing more at the end; false, and nothing changed, where the row is full.
-    pub fn push(&mut self, x: T) -> bool
+    pub(crate) fn push(&mut self, x: T) -> bool
         ensures value { λ r. ⌜ r ≡ ltb (length (held (now (self .entry)))) N ⌝ }
         ensures after { λ r. ⌜ held (now (self .exit)) ≡ cond r (held (now (self .entry)) ++ x ∷ []) (held (now (self .entry))) ⌝ }
     {
@@ -58,14 +61,14 @@ impl<T: Copy, const N: usize> Row<T, N> {
     }
 
     /// Takes all away.
-    pub fn clear(&mut self)
+    pub(crate) fn clear(&mut self)
         ensures after { λ _. ⌜ held (now (self .exit)) ≡ [] ⌝ }
     {
         self.count = 0;
     }
 
     /// Takes the first away, if there is one.
-    pub fn shift(&mut self)
+    pub(crate) fn shift(&mut self)
         ensures after { λ _. ⌜ held (now (self .exit)) ≡ drop 1 (held (now (self .entry))) ⌝ }
     {
         if self.count == 0 {

@@ -18,7 +18,13 @@ impl Running {
         ensures value { λ r. ⌜ runOf r ≡ record { state = Ready; core = fresh number; began = 0; late = 0 } ⌝ }
         ensures plan { λ r. ⌜ taskOf r ≡ plan ⌝ }
     {
-        Running { plan, state: State::Ready, core: Registers::new(number), began: 0, late: 0 }
+        Running {
+            plan,
+            state: State::Ready,
+            core: Registers::new(number),
+            began: 0,
+            late: 0,
+        }
     }
 
     /// The task as it is at the start.
@@ -67,7 +73,13 @@ impl Running {
             return self;
         }
         let began = self.began + period;
-        Running { plan: self.plan, state: State::Ready, core: Registers::new(number), began, late: self.late }
+        Running {
+            plan: self.plan,
+            state: State::Ready,
+            core: Registers::new(number),
+            began,
+            late: self.late,
+        }
     }
 
     /// A ready task whose deadline has come is late.
@@ -84,9 +96,21 @@ impl Running {
         }
         let late = self.late + 1;
         if u16::from(self.plan.lates) <= self.late {
-            return Running { plan: self.plan, state: State::Stopped, core: self.core, began: self.began, late };
+            return Running {
+                plan: self.plan,
+                state: State::Stopped,
+                core: self.core,
+                began: self.began,
+                late,
+            };
         }
-        Running { plan: self.plan, state: State::Waiting, core: self.core, began: self.began, late }
+        Running {
+            plan: self.plan,
+            state: State::Waiting,
+            core: self.core,
+            began: self.began,
+            late,
+        }
     }
 
     /// It goes on with this core.
@@ -95,7 +119,13 @@ impl Running {
         ensures value { λ r. ⌜ runOf r ≡ goesOn (coreOf core) (runOf self) ⌝ }
         ensures plan { λ r. ⌜ taskOf r ≡ taskOf self ⌝ }
     {
-        Running { plan: self.plan, state: State::Ready, core, began: self.began, late: self.late }
+        Running {
+            plan: self.plan,
+            state: State::Ready,
+            core,
+            began: self.began,
+            late: self.late,
+        }
     }
 
     /// It waits for its next period, and has not been late any more.
@@ -103,7 +133,13 @@ impl Running {
         ensures value { λ r. ⌜ runOf r ≡ waits (coreOf core) (runOf self) ⌝ }
         ensures plan { λ r. ⌜ taskOf r ≡ taskOf self ⌝ }
     {
-        Running { plan: self.plan, state: State::Waiting, core, began: self.began, late: 0 }
+        Running {
+            plan: self.plan,
+            state: State::Waiting,
+            core,
+            began: self.began,
+            late: 0,
+        }
     }
 
     /// It does nothing more.
@@ -111,6 +147,12 @@ impl Running {
         ensures value { λ r. ⌜ runOf r ≡ stops (runOf self) ⌝ }
         ensures plan { λ r. ⌜ taskOf r ≡ taskOf self ⌝ }
     {
-        Running { plan: self.plan, state: State::Stopped, core: self.core, began: self.began, late: self.late }
+        Running {
+            plan: self.plan,
+            state: State::Stopped,
+            core: self.core,
+            began: self.began,
+            late: self.late,
+        }
     }
 }

@@ -39,7 +39,15 @@ impl<'a> World<'a> {
     {
         renew_all(parts);
         clear_all(channels);
-        World { system, windows, time: 0, parts, pages, memory, channels }
+        World {
+            system,
+            windows,
+            time: 0,
+            parts,
+            pages,
+            memory,
+            channels,
+        }
     }
 
     /// One tick, with the bytes that come in it. What comes back is the computer, and what was shown, if anything was;
@@ -48,34 +56,118 @@ impl<'a> World<'a> {
         ensures plan { λ r. ⌜ planOf (r .0) ≡ planOf (self .entry) ⌝ }
         ensures value { λ r. ⌜ Cases (r .1) (λ b. (s : ℕ → List (ℕ × ℕ)) → viewOf (r .0) (after s b) ≡ tick rv32i (planOf (self .entry)) (viewOf (self .entry) s) (now (row .entry))) (λ _. (2 ^ 40 ≤ self .entry .time) × ((s : ℕ → List (ℕ × ℕ)) → viewOf (r .0) s ≡ viewOf (self .entry) s)) ⌝ }
     {
-        let World { system, windows, time, parts, pages, memory, channels } = self;
+        let World {
+            system,
+            windows,
+            time,
+            parts,
+            pages,
+            memory,
+            channels,
+        } = self;
         if time >= END {
-            return (World { system, windows, time, parts, pages, memory, channels }, Err(Refused::Over));
+            return (
+                World {
+                    system,
+                    windows,
+                    time,
+                    parts,
+                    pages,
+                    memory,
+                    channels,
+                },
+                Err(Refused::Over),
+            );
         }
         let shown = advance(system, windows, time, parts, pages, memory, channels, row);
-        (World { system, windows, time: time + 1, parts, pages, memory, channels }, Ok(shown))
+        (
+            World {
+                system,
+                windows,
+                time: time + 1,
+                parts,
+                pages,
+                memory,
+                channels,
+            },
+            Ok(shown),
+        )
     }
 
     /// Many ticks, each with the bytes that come in it. What tick k shows goes to place k. It is refused, with nothing
     /// changed, where there are fewer places than ticks, or where a tick would come after the 2^40th.
-    pub fn run(self, rows: &[&[Arrival]], shown: &mut [Option<Shown>]) -> (World<'a>, Result<(), Refused>)
+    pub fn run(
+        self,
+        rows: &[&[Arrival]],
+        shown: &mut [Option<Shown>],
+    ) -> (World<'a>, Result<(), Refused>)
         ensures plan { λ r. ⌜ planOf (r .0) ≡ planOf (self .entry) ⌝ }
         ensures value { λ r. ⌜ Cases (r .1) (λ _. ((s : ℕ → List (ℕ × ℕ)) → viewOf (r .0) (afterAll s (take (length (now (rows .entry))) (now (shown .exit)))) ≡ ticks rv32i (planOf (self .entry)) (viewOf (self .entry) s) (map (λ row. now row) (now (rows .entry)))) × (drop (length (now (rows .entry))) (now (shown .exit)) ≡ drop (length (now (rows .entry))) (now (shown .entry)))) (λ _. ((s : ℕ → List (ℕ × ℕ)) → viewOf (r .0) s ≡ viewOf (self .entry) s) × (now (shown .exit) ≡ now (shown .entry))) ⌝ }
         ensures refused { λ r. ⌜ Cases (r .1) (λ _. Unit {0}) (λ e. Reason e (length (now (rows .entry))) (length (now (shown .entry))) (self .entry .time)) ⌝ }
     {
-        let World { system, windows, time, parts, pages, memory, channels } = self;
+        let World {
+            system,
+            windows,
+            time,
+            parts,
+            pages,
+            memory,
+            channels,
+        } = self;
         let many = rows.len();
         if shown.len() < many {
-            return (World { system, windows, time, parts, pages, memory, channels }, Err(Refused::Places));
+            return (
+                World {
+                    system,
+                    windows,
+                    time,
+                    parts,
+                    pages,
+                    memory,
+                    channels,
+                },
+                Err(Refused::Places),
+            );
         }
         if time > END || many as u64 > END - time {
-            return (World { system, windows, time, parts, pages, memory, channels }, Err(Refused::Over));
+            return (
+                World {
+                    system,
+                    windows,
+                    time,
+                    parts,
+                    pages,
+                    memory,
+                    channels,
+                },
+                Err(Refused::Over),
+            );
         }
         let mut clock = time;
         for k in 0..many {
-            shown[k] = advance(system, windows, clock, parts, pages, memory, channels, rows[k]);
+            shown[k] = advance(
+                system,
+                windows,
+                clock,
+                parts,
+                pages,
+                memory,
+                channels,
+                rows[k],
+            );
             clock += 1;
         }
-        (World { system, windows, time: clock, parts, pages, memory, channels }, Ok(()))
+        (
+            World {
+                system,
+                windows,
+                time: clock,
+                parts,
+                pages,
+                memory,
+                channels,
+            },
+            Ok(()),
+        )
     }
 }

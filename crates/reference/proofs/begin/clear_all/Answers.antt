@@ -20,12 +20,12 @@ unfolding plansOf planOf
 loop-c-again c =
     let cs = c .loop-c .channels in
     let old = getD cs (c .loop-c .c) (c .index-channels-c .result) in
-    let found = nth-getD cs (c .loop-c .c) (c .index-channels-c .result) (omega arith) in
-    ( each-more (λ (x : Queue). sentsOf x ≡ []) cs (c .loop-c .c) (c .clear .last .self) (c .loop-c .inv .0) (c .clear .ensures .after)
-    , map-set planOf cs (c .loop-c .c) (c .clear .last .self)
-      ∙ ap (set (map planOf cs) (c .loop-c .c)) (c .clear .ensures .same)
-      ∙ set-same (map planOf cs) (c .loop-c .c) (planOf old) noChannel (getD-map-some planOf cs (c .loop-c .c) old noChannel found)
-      ∙ c .loop-c .inv .1
+    let found = nth-getD cs (c .loop-c .c) (c .index-channels-c .result) (omega arith) in (
+      each-more (λ (x : Queue). sentsOf x ≡ []) cs (c .loop-c .c) (c .clear .last .self) (c .loop-c .inv .0) (c .clear .ensures .after),
+      map-set planOf cs (c .loop-c .c) (c .clear .last .self)
+          ∙ ap (set (map planOf cs) (c .loop-c .c)) (c .clear .ensures .same)
+          ∙ set-same (map planOf cs) (c .loop-c .c) (planOf old) noChannel (getD-map-some planOf cs (c .loop-c .c) old noChannel found)
+          ∙ c .loop-c .inv .1,
     )
 
 pub returns : need.returns

@@ -14,10 +14,10 @@ loop-q-holds c = ((λ j x h e. absurd (omega arith)), refl)
 
 pub loop-q-again : need.loop-q-again
 loop-q-again c =
-    let old = getD (c .loop-q .parts) (c .loop-q .q) (c .index-parts-q .result) in
-    ( each-more New (c .loop-q .parts) (c .loop-q .q) (c .renew .last .self) (c .loop-q .inv .0)
-        (record { runs = c .renew .ensures .runs ∙ (λ j. newRuns rv32i 0 (sym (c .renew .ensures .tasks) j)); heard = c .renew .ensures .heard })
-    , plan-kept (c .loop-q .parts) (c .loop-q .q) old (c .renew .last .self) (nth-getD (c .loop-q .parts) (c .loop-q .q) (c .index-parts-q .result) (omega arith)) (c .renew .ensures .tasks) ∙ c .loop-q .inv .1
+    let old = getD (c .loop-q .parts) (c .loop-q .q) (c .index-parts-q .result) in (
+      each-more New (c .loop-q .parts) (c .loop-q .q) (c .renew .last .self) (c .loop-q .inv .0)
+          (record { runs = c .renew .ensures .runs ∙ (λ j. newRuns rv32i 0 (sym (c .renew .ensures .tasks) j)); heard = c .renew .ensures .heard }),
+      plan-kept (c .loop-q .parts) (c .loop-q .q) old (c .renew .last .self) (nth-getD (c .loop-q .parts) (c .loop-q .q) (c .index-parts-q .result) (omega arith)) (c .renew .ensures .tasks) ∙ c .loop-q .inv .1,
     )
 
 pub returns : need.returns

@@ -34,20 +34,20 @@ returns-in-Sets c =
     let i = c .args .i in
     let step = λ (s : List (ℕ × ℕ)). acted q t sn (partOf x m s) i (act k m) in
     let whole : effectAt k m ≡ c .step .result =
-          sym
-            (c .step .ensures .value
-            ∙ ap (λ w. effectFetched (coreOf (c .core-core .result)) w (length m))
-                (c .fetch-word .ensures .value ∙ ap (λ p. cond (inside 4 p (length m)) (Some (at 4 m p)) None) (c .pc .ensures .value))
-            ∙ ap (λ z. effectAt z m) (c .core-core .ensures .value)) in
+    sym
+    (c .step .ensures .value
+    ∙ ap (λ w. effectFetched (coreOf (c .core-core .result)) w (length m))
+    (c .fetch-word .ensures .value ∙ ap (λ p. cond (inside 4 p (length m)) (Some (at 4 m p)) None) (c .pc .ensures .value))
+    ∙ ap (λ z. effectAt z m) (c .core-core .ensures .value)) in
     let comes : effectAt k m ≡ Sets (c .in-Sets .rd) (c .in-Sets .value) (c .in-Sets .next) = whole ∙ c .in-Sets .is in
     let core : coreOf (c .go .last .self) ≡ going (written k (c .in-Sets .rd .number) (c .in-Sets .value)) (c .in-Sets .next) = c .go .ensures .after ∙ ap (λ z. going z (c .in-Sets .next)) (c .set .ensures .after ∙ ap (λ z. written z (c .in-Sets .rd .number) (c .in-Sets .value)) (c .core-core .ensures .value)) in
-    record
-      { value =
+    record {
+      value =
           did-quiet step t x _ m (heardOf x) i (goesOn (going (written k (c .in-Sets .rd .number) (c .in-Sets .value)) (c .in-Sets .next))) cs
-            (λ s. ap (λ (e : Effect). acted q t sn (partOf x m s) i (performed k m e)) comes)
-            (c .goes-on .ensures .runs ∙ ap (λ z. update (runsOf x) i (goesOn z)) core) (c .goes-on .ensures .heard)
-      ; tasks = c .goes-on .ensures .tasks
-      }
+          (λ s. ap (λ (e : Effect). acted q t sn (partOf x m s) i (performed k m e)) comes)
+          (c .goes-on .ensures .runs ∙ ap (λ z. update (runsOf x) i (goesOn z)) core) (c .goes-on .ensures .heard);
+      tasks = c .goes-on .ensures .tasks;
+    }
 
 pub returns-in-Goes : need.returns-in-Goes
 unfolding acted partOf
@@ -62,20 +62,20 @@ returns-in-Goes c =
     let i = c .args .i in
     let step = λ (s : List (ℕ × ℕ)). acted q t sn (partOf x m s) i (act k m) in
     let whole : effectAt k m ≡ c .step .result =
-          sym
-            (c .step .ensures .value
-            ∙ ap (λ w. effectFetched (coreOf (c .core-core .result)) w (length m))
-                (c .fetch-word .ensures .value ∙ ap (λ p. cond (inside 4 p (length m)) (Some (at 4 m p)) None) (c .pc .ensures .value))
-            ∙ ap (λ z. effectAt z m) (c .core-core .ensures .value)) in
+    sym
+    (c .step .ensures .value
+    ∙ ap (λ w. effectFetched (coreOf (c .core-core .result)) w (length m))
+    (c .fetch-word .ensures .value ∙ ap (λ p. cond (inside 4 p (length m)) (Some (at 4 m p)) None) (c .pc .ensures .value))
+    ∙ ap (λ z. effectAt z m) (c .core-core .ensures .value)) in
     let comes : effectAt k m ≡ Goes (c .in-Goes .next) = whole ∙ c .in-Goes .is in
     let core : coreOf (c .go-in-Goes .last .self) ≡ going k (c .in-Goes .next) = c .go-in-Goes .ensures .after ∙ ap (λ z. going z (c .in-Goes .next)) (c .core-core .ensures .value) in
-    record
-      { value =
+    record {
+      value =
           did-quiet step t x _ m (heardOf x) i (goesOn (going k (c .in-Goes .next))) cs
-            (λ s. ap (λ (e : Effect). acted q t sn (partOf x m s) i (performed k m e)) comes)
-            (c .goes-on-in-Goes .ensures .runs ∙ ap (λ z. update (runsOf x) i (goesOn z)) core) (c .goes-on-in-Goes .ensures .heard)
-      ; tasks = c .goes-on-in-Goes .ensures .tasks
-      }
+          (λ s. ap (λ (e : Effect). acted q t sn (partOf x m s) i (performed k m e)) comes)
+          (c .goes-on-in-Goes .ensures .runs ∙ ap (λ z. update (runsOf x) i (goesOn z)) core) (c .goes-on-in-Goes .ensures .heard);
+      tasks = c .goes-on-in-Goes .ensures .tasks;
+    }
 
 pub returns-in-Loads : need.returns-in-Loads
 unfolding acted partOf
@@ -90,22 +90,22 @@ returns-in-Loads c =
     let i = c .args .i in
     let step = λ (s : List (ℕ × ℕ)). acted q t sn (partOf x m s) i (act k m) in
     let whole : effectAt k m ≡ c .step .result =
-          sym
-            (c .step .ensures .value
-            ∙ ap (λ w. effectFetched (coreOf (c .core-core .result)) w (length m))
-                (c .fetch-word .ensures .value ∙ ap (λ p. cond (inside 4 p (length m)) (Some (at 4 m p)) None) (c .pc .ensures .value))
-            ∙ ap (λ z. effectAt z m) (c .core-core .ensures .value)) in
+    sym
+    (c .step .ensures .value
+    ∙ ap (λ w. effectFetched (coreOf (c .core-core .result)) w (length m))
+    (c .fetch-word .ensures .value ∙ ap (λ p. cond (inside 4 p (length m)) (Some (at 4 m p)) None) (c .pc .ensures .value))
+    ∙ ap (λ z. effectAt z m) (c .core-core .ensures .value)) in
     let comes : effectAt k m ≡ Loads (c .in-Loads .rd) (c .in-Loads .kind) (c .in-Loads .address) = whole ∙ c .in-Loads .is in
-    let core : coreOf (c .go-on .last .self) ≡ goingOn (written k (c .in-Loads .rd .number) (extended (c .in-Loads .kind) (at (loadBytes (c .in-Loads .kind)) m (c .in-Loads .address)))) = 
-          c .go-on .ensures .after
-          ∙ ap goingOn (c .set-in-Loads .ensures .after ∙ (λ j. written ((c .core-core .ensures .value) j) (c .in-Loads .rd .number) (c .load .ensures .value j))) in
-    record
-      { value =
+    let core : coreOf (c .go-on .last .self) ≡ goingOn (written k (c .in-Loads .rd .number) (extended (c .in-Loads .kind) (at (loadBytes (c .in-Loads .kind)) m (c .in-Loads .address)))) =
+    c .go-on .ensures .after
+    ∙ ap goingOn (c .set-in-Loads .ensures .after ∙ (λ j. written ((c .core-core .ensures .value) j) (c .in-Loads .rd .number) (c .load .ensures .value j))) in
+    record {
+      value =
           did-quiet step t x _ m (heardOf x) i (goesOn (goingOn (written k (c .in-Loads .rd .number) (extended (c .in-Loads .kind) (at (loadBytes (c .in-Loads .kind)) m (c .in-Loads .address)))))) cs
-            (λ s. ap (λ (e : Effect). acted q t sn (partOf x m s) i (performed k m e)) comes)
-            (c .goes-on-in-Loads .ensures .runs ∙ ap (λ z. update (runsOf x) i (goesOn z)) core) (c .goes-on-in-Loads .ensures .heard)
-      ; tasks = c .goes-on-in-Loads .ensures .tasks
-      }
+          (λ s. ap (λ (e : Effect). acted q t sn (partOf x m s) i (performed k m e)) comes)
+          (c .goes-on-in-Loads .ensures .runs ∙ ap (λ z. update (runsOf x) i (goesOn z)) core) (c .goes-on-in-Loads .ensures .heard);
+      tasks = c .goes-on-in-Loads .ensures .tasks;
+    }
 
 pub returns-in-Stores : need.returns-in-Stores
 unfolding acted partOf withMemory
@@ -120,21 +120,21 @@ returns-in-Stores c =
     let i = c .args .i in
     let step = λ (s : List (ℕ × ℕ)). acted q t sn (partOf x m s) i (act k m) in
     let whole : effectAt k m ≡ c .step .result =
-          sym
-            (c .step .ensures .value
-            ∙ ap (λ w. effectFetched (coreOf (c .core-core .result)) w (length m))
-                (c .fetch-word .ensures .value ∙ ap (λ p. cond (inside 4 p (length m)) (Some (at 4 m p)) None) (c .pc .ensures .value))
-            ∙ ap (λ z. effectAt z m) (c .core-core .ensures .value)) in
+    sym
+    (c .step .ensures .value
+    ∙ ap (λ w. effectFetched (coreOf (c .core-core .result)) w (length m))
+    (c .fetch-word .ensures .value ∙ ap (λ p. cond (inside 4 p (length m)) (Some (at 4 m p)) None) (c .pc .ensures .value))
+    ∙ ap (λ z. effectAt z m) (c .core-core .ensures .value)) in
     let comes : effectAt k m ≡ Stores (c .in-Stores .kind) (c .in-Stores .address) (c .in-Stores .value) = whole ∙ c .in-Stores .is in
     let core : coreOf (c .go-on-in-Stores .last .self) ≡ goingOn k = c .go-on-in-Stores .ensures .after ∙ ap goingOn (c .core-core .ensures .value) in
-    record
-      { value =
+    record {
+      value =
           did-quiet step t x _ (c .store .last .memory) (heardOf x) i (goesOn (goingOn k)) cs
-            (λ s. ap (λ (e : Effect). acted q t sn (partOf x m s) i (performed k m e)) comes
-              ∙ ap (λ mm. record { part = changing (record { memory = mm; tasks = runsOf x; heard = heardOf x; shown = s }) i (goesOn (goingOn k)); change = none }) (sym (c .store .ensures .after)))
-            (c .goes-on-in-Stores .ensures .runs ∙ ap (λ z. update (runsOf x) i (goesOn z)) core) (c .goes-on-in-Stores .ensures .heard)
-      ; tasks = c .goes-on-in-Stores .ensures .tasks
-      }
+          (λ s. ap (λ (e : Effect). acted q t sn (partOf x m s) i (performed k m e)) comes
+          ∙ ap (λ mm. record { part = changing (record { memory = mm; tasks = runsOf x; heard = heardOf x; shown = s }) i (goesOn (goingOn k)); change = none }) (sym (c .store .ensures .after)))
+          (c .goes-on-in-Stores .ensures .runs ∙ ap (λ z. update (runsOf x) i (goesOn z)) core) (c .goes-on-in-Stores .ensures .heard);
+      tasks = c .goes-on-in-Stores .ensures .tasks;
+    }
 
 pub returns-in-Calls : need.returns-in-Calls
 unfolding acted
@@ -149,16 +149,16 @@ returns-in-Calls c =
     let i = c .args .i in
     let step = λ (s : List (ℕ × ℕ)). acted q t sn (partOf x m s) i (act k m) in
     let whole : effectAt k m ≡ c .step .result =
-          sym
-            (c .step .ensures .value
-            ∙ ap (λ w. effectFetched (coreOf (c .core-core .result)) w (length m))
-                (c .fetch-word .ensures .value ∙ ap (λ p. cond (inside 4 p (length m)) (Some (at 4 m p)) None) (c .pc .ensures .value))
-            ∙ ap (λ z. effectAt z m) (c .core-core .ensures .value)) in
+    sym
+    (c .step .ensures .value
+    ∙ ap (λ w. effectFetched (coreOf (c .core-core .result)) w (length m))
+    (c .fetch-word .ensures .value ∙ ap (λ p. cond (inside 4 p (length m)) (Some (at 4 m p)) None) (c .pc .ensures .value))
+    ∙ ap (λ z. effectAt z m) (c .core-core .ensures .value)) in
     let comes : effectAt k m ≡ Calls = whole ∙ c .in-Calls .is in
-    record
-      { value = did-as _ step t _ _ cs _ _ (λ s. ap (λ (e : Effect). acted q t sn (partOf x m s) i (performed k m e)) comes) (c .call .ensures .value)
-      ; tasks = c .call .ensures .tasks
-      }
+    record {
+      value = did-as _ step t _ _ cs _ _ (λ s. ap (λ (e : Effect). acted q t sn (partOf x m s) i (performed k m e)) comes) (c .call .ensures .value);
+      tasks = c .call .ensures .tasks;
+    }
 
 pub returns-in-Wrong : need.returns-in-Wrong
 unfolding acted partOf
@@ -173,16 +173,16 @@ returns-in-Wrong c =
     let i = c .args .i in
     let step = λ (s : List (ℕ × ℕ)). acted q t sn (partOf x m s) i (act k m) in
     let whole : effectAt k m ≡ c .step .result =
-          sym
-            (c .step .ensures .value
-            ∙ ap (λ w. effectFetched (coreOf (c .core-core .result)) w (length m))
-                (c .fetch-word .ensures .value ∙ ap (λ p. cond (inside 4 p (length m)) (Some (at 4 m p)) None) (c .pc .ensures .value))
-            ∙ ap (λ z. effectAt z m) (c .core-core .ensures .value)) in
+    sym
+    (c .step .ensures .value
+    ∙ ap (λ w. effectFetched (coreOf (c .core-core .result)) w (length m))
+    (c .fetch-word .ensures .value ∙ ap (λ p. cond (inside 4 p (length m)) (Some (at 4 m p)) None) (c .pc .ensures .value))
+    ∙ ap (λ z. effectAt z m) (c .core-core .ensures .value)) in
     let comes : effectAt k m ≡ Wrong = whole ∙ c .in-Wrong .is in
-    record
-      { value =
+    record {
+      value =
           did-quiet step t x _ m (heardOf x) i (stops) cs
-            (λ s. ap (λ (e : Effect). acted q t sn (partOf x m s) i (performed k m e)) comes)
-            (c .stops .ensures .runs) (c .stops .ensures .heard)
-      ; tasks = c .stops .ensures .tasks
-      }
+          (λ s. ap (λ (e : Effect). acted q t sn (partOf x m s) i (performed k m e)) comes)
+          (c .stops .ensures .runs) (c .stops .ensures .heard);
+      tasks = c .stops .ensures .tasks;
+    }

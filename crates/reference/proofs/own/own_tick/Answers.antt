@@ -23,10 +23,10 @@ returns-in-rest c =
     let t = c .args .time in
     let sn = seenOf cs (c .args .q) in
     let ls = c .look .ensures in
-    record
-      { value = did-nothing _ t y m cs (nobody-first (c .args .q) t sn x y m (ls .runs) (ls .tasks) (ls .heard) (sym (c .first-ready .ensures .value) ∙ c .in-rest .is))
-      ; tasks = ls .tasks
-      }
+    record {
+      value = did-nothing _ t y m cs (nobody-first (c .args .q) t sn x y m (ls .runs) (ls .tasks) (ls .heard) (sym (c .first-ready .ensures .value) ∙ c .in-rest .is));
+      tasks = ls .tasks;
+    }
 
 pub returns-in-rest-task : need.returns-in-rest-task
 returns-in-rest-task c =
@@ -37,12 +37,12 @@ returns-in-rest-task c =
     let t = c .args .time in
     let sn = seenOf cs (c .args .q) in
     let ls = c .look .ensures in
-    record
-      { value =
+    record {
+      value =
           did-nothing _ t y m cs
-            (none-there (c .args .q) t sn x y m (ls .runs) (ls .tasks) (ls .heard) (c .in-Some .i) (sym (c .first-ready .ensures .value) ∙ c .in-Some .is) (sym (c .task .ensures .value) ∙ c .in-rest-task .is))
-      ; tasks = ls .tasks
-      }
+          (none-there (c .args .q) t sn x y m (ls .runs) (ls .tasks) (ls .heard) (c .in-Some .i) (sym (c .first-ready .ensures .value) ∙ c .in-Some .is) (sym (c .task .ensures .value) ∙ c .in-rest-task .is));
+      tasks = ls .tasks;
+    }
 
 pub instruction-requires : need.instruction-requires
 instruction-requires c κs =
@@ -58,10 +58,10 @@ returns c =
     let t = c .args .time in
     let sn = seenOf cs (c .args .q) in
     let ls = c .look .ensures in
-    record
-      { value =
+    record {
+      value =
           did-as _ _ t _ _ cs _ _
-            (first-does (c .args .q) t sn x y m (ls .runs) (ls .tasks) (ls .heard) (c .in-Some .i) (c .in-Some-task .run′) (sym (c .first-ready .ensures .value) ∙ c .in-Some .is) (sym (c .task .ensures .value) ∙ c .in-Some-task .is))
-            (c .instruction .ensures .value)
-      ; tasks = c .instruction .ensures .tasks ∙ ls .tasks
-      }
+          (first-does (c .args .q) t sn x y m (ls .runs) (ls .tasks) (ls .heard) (c .in-Some .i) (c .in-Some-task .run′) (sym (c .first-ready .ensures .value) ∙ c .in-Some .is) (sym (c .task .ensures .value) ∙ c .in-Some-task .is))
+          (c .instruction .ensures .value);
+      tasks = c .instruction .ensures .tasks ∙ ls .tasks;
+    }

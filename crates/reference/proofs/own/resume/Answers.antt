@@ -16,10 +16,10 @@ use Rattle.reference.proofs.own.resume.Needs as need
 
 pub returns : need.returns
 returns c =
-    record
-      { tasks = c .goes-on .ensures .tasks
-      ; runs =
+    record {
+      tasks = c .goes-on .ensures .tasks;
+      runs =
           c .goes-on .ensures .runs
-          ∙ ap (λ k. update (runsOf (c .args .part .now)) (c .args .i) (goesOn k)) (c .answer .ensures .after ∙ ap (λ k. answered k (c .args .answer)) (c .core-core .ensures .value))
-      ; heard = c .goes-on .ensures .heard
-      }
+          ∙ ap (λ k. update (runsOf (c .args .part .now)) (c .args .i) (goesOn k)) (c .answer .ensures .after ∙ ap (λ k. answered k (c .args .answer)) (c .core-core .ensures .value));
+      heard = c .goes-on .ensures .heard;
+    }

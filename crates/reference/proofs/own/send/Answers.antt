@@ -8,8 +8,8 @@ returns-then-c-channels c = record { value = send-nowhere (c .args .q) (c .args 
 
 pub returns : need.returns
 returns c =
-    record
-      { value =
-          send-there (c .args .q) (c .args .time) (c .args .channels .now) (c .args .memory .now) (c .args .channel) (c .args .address) (c .args .length) (getD (c .args .channels .now) (c .args .channel) (c .index-channels-c .result)) (c .send .last .self) (c .send .result) 
-            (nth-getD (c .args .channels .now) (c .args .channel) (c .index-channels-c .result) (c .if-c-channels .left)) (c .send .ensures .same) (c .send .ensures .value)
-      }
+    record {
+      value =
+          send-there (c .args .q) (c .args .time) (c .args .channels .now) (c .args .memory .now) (c .args .channel) (c .args .address) (c .args .length) (getD (c .args .channels .now) (c .args .channel) (c .index-channels-c .result)) (c .send .last .self) (c .send .result)
+          (nth-getD (c .args .channels .now) (c .args .channel) (c .index-channels-c .result) (c .if-c-channels .left)) (c .send .ensures .same) (c .send .ensures .value);
+    }

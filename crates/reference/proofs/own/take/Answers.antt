@@ -8,8 +8,8 @@ returns-then-c-channels c = record { value = take-nowhere (c .args .q) (c .args 
 
 pub returns : need.returns
 returns c =
-    record
-      { value =
-          take-there (c .args .q) (c .args .time) (c .args .channels .now) (c .args .memory .now) (c .args .channel) (c .args .address) (getD (c .args .channels .now) (c .args .channel) (c .index-channels-c .result)) (c .take .last .self) (c .take .result) (c .take .last .memory) 
-            (nth-getD (c .args .channels .now) (c .args .channel) (c .index-channels-c .result) (c .if-c-channels .left)) (c .take .ensures .same) (c .take .ensures .value)
-      }
+    record {
+      value =
+          take-there (c .args .q) (c .args .time) (c .args .channels .now) (c .args .memory .now) (c .args .channel) (c .args .address) (getD (c .args .channels .now) (c .args .channel) (c .index-channels-c .result)) (c .take .last .self) (c .take .result) (c .take .last .memory)
+          (nth-getD (c .args .channels .now) (c .args .channel) (c .index-channels-c .result) (c .if-c-channels .left)) (c .take .ensures .same) (c .take .ensures .value);
+    }

@@ -16,7 +16,7 @@ returns c =
     let xs = c .args .parts .now in
     let old = getD xs (c .args .a .partition) (c .index-parts-q .result) in
     let found = nth-getD xs (c .args .a .partition) (c .index-parts-q .result) (c .if-q-parts .left) in
-    record
-      { value = λ t m cs s rest. came-there t m cs s xs (c .args .a) rest old (c .arrive .last .self) found (c .arrive .ensures .same) (c .arrive .ensures .heard)
-      ; tasks = plan-kept xs (c .args .a .partition) old (c .arrive .last .self) found (λ j. map taskOf (held (c .arrive .ensures .same j)))
-      }
+    record {
+      value = λ t m cs s rest. came-there t m cs s xs (c .args .a) rest old (c .arrive .last .self) found (c .arrive .ensures .same) (c .arrive .ensures .heard);
+      tasks = plan-kept xs (c .args .a .partition) old (c .arrive .last .self) found (λ j. map taskOf (held (c .arrive .ensures .same j)));
+    }

@@ -12,6 +12,6 @@ use Rattle.reference.proofs.step.arrivals.Given as given
 abbrev pub Inv-loop-a : given.InvT-loop-a
 Inv-loop-a l =
     ((t : ℕ) (m : ℕ → List ℕ) (cs : List (List Sent)) (s : ℕ → List (ℕ × ℕ))
-      → came (drop (l .a-index) (l .row)) (record { time = t; parts = partsOf (l .parts) m s 0; channels = cs })
-        ≡ came (l .row) (record { time = t; parts = partsOf (l .entry .parts) m s 0; channels = cs }))
+    → came (drop (l .a-index) (l .row)) (record { time = t; parts = partsOf (l .parts) m s 0; channels = cs })
+    ≡ came (l .row) (record { time = t; parts = partsOf (l .entry .parts) m s 0; channels = cs }))
     × (map tasksOf (l .parts) ≡ map tasksOf (l .entry .parts))

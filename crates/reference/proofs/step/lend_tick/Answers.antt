@@ -19,8 +19,8 @@ returns c =
     let ys = c .own-tick .last .memory in
     let many : length ys ≡ e - a = c .own-tick .kept .memory ∙ length-between m a e (c .pre .within) in
     let back : between a e (putMid a (e - a) m ys) ≡ ys = between-putMid a (e - a) m ys e (omega (arith, c .pre .order, c .pre .within)) many in
-    record
-      { value = did-memory _ _ _ ys _ _ _ _ back (c .own-tick .ensures .value)
-      ; lent = put-is m ys a (e - a) many ∙ ap (put m a) (sym back)
-      ; tasks = c .own-tick .ensures .tasks
-      }
+    record {
+      value = did-memory _ _ _ ys _ _ _ _ back (c .own-tick .ensures .value);
+      lent = put-is m ys a (e - a) many ∙ ap (put m a) (sym back);
+      tasks = c .own-tick .ensures .tasks;
+    }

@@ -27,13 +27,13 @@ returns c =
     let old = getD xs q (c .index-parts-k .result) in
     let found = nth-getD xs q (c .index-parts-k .result) (c .if-k-parts .left) in
     let many : length (between a e n) ≡ e - a = length-between n a e (omega (arith, c .lend-tick .kept .memory, c .region-a .ensures .end)) in
-    record
-      { value = λ system s.
+    record {
+      value = λ system s.
           worked-with system (c .args .time) xs (memoriesIn ps m) (c .args .channels .now) s q (memoriesIn ps n) _ old (c .lend-tick .last .part) (c .lend-tick .result) (between a e m) (between a e n) found
-            (region-is ps m q a e (c .region-a .ensures .begin) (c .region-a .ensures .end))
-            (ap (λ z. getD (memoriesIn ps z) q []) (c .lend-tick .ensures .lent) ∙ region-put ps m q a e (c .region-a .ensures .begin) (c .region-a .ensures .end) (between a e n) many)
-            (c .lend-tick .ensures .value)
-            (λ j h. ap (λ z. getD (memoriesIn ps z) j []) (c .lend-tick .ensures .lent) ∙ region-other ps m q a e (c .region-a .ensures .begin) (c .region-a .ensures .end) (between a e n) j many h)
-      ; tasks = plan-kept xs q old (c .lend-tick .last .part) found (c .lend-tick .ensures .tasks)
-      ; plans = c .lend-tick .ensures .value .plans
-      }
+          (region-is ps m q a e (c .region-a .ensures .begin) (c .region-a .ensures .end))
+          (ap (λ z. getD (memoriesIn ps z) q []) (c .lend-tick .ensures .lent) ∙ region-put ps m q a e (c .region-a .ensures .begin) (c .region-a .ensures .end) (between a e n) many)
+          (c .lend-tick .ensures .value)
+          (λ j h. ap (λ z. getD (memoriesIn ps z) j []) (c .lend-tick .ensures .lent) ∙ region-other ps m q a e (c .region-a .ensures .begin) (c .region-a .ensures .end) (between a e n) j many h);
+      tasks = plan-kept xs q old (c .lend-tick .last .part) found (c .lend-tick .ensures .tasks);
+      plans = c .lend-tick .ensures .value .plans;
+    }

@@ -9,10 +9,10 @@ pub returns-then-round-eq0 : need.returns-then-round-eq0
 returns-then-round-eq0 c = record { value = sym (turn-empty (c .args .system) (c .args .windows .now) _ (omega arith)) }
 
 pub returns : need.returns
-returns c = 
-    record
-      { value =
+returns c =
+    record {
+      value =
           c .turn-in .ensures .value
           ∙ ap (λ n. turnIn (c .args .system) (c .args .windows .now) (c .args .time % n)) (c .round-of-round .ensures .value)
-          ∙ ap (λ n. turnIn (c .args .system) (c .args .windows .now) n) (within-round (c .args .time) (round (c .args .windows .now)) (c .pre))
-      }
+          ∙ ap (λ n. turnIn (c .args .system) (c .args .windows .now) n) (within-round (c .args .time) (round (c .args .windows .now)) (c .pre));
+    }

@@ -15,12 +15,12 @@ windows-again c =
 pub returns-then-left-from : need.returns-then-left-from
 returns-then-left-from c =
     record
-      { value = sym (sym (c .windows .inv) ∙ turn-system (c .args .system) (c .args .windows .now) (c .windows .w-index) (c .windows .left) (c .windows-test .taken) (omega arith) (omega arith)) }
+    { value = sym (sym (c .windows .inv) ∙ turn-system (c .args .system) (c .args .windows .now) (c .windows .w-index) (c .windows .left) (c .windows-test .taken) (omega arith) (omega arith)) }
 
 pub returns-in-windows : need.returns-in-windows
 returns-in-windows c =
     record
-      { value = sym (sym (c .windows .inv) ∙ turn-own (c .args .system) (c .args .windows .now) (c .windows .w-index) (c .windows .left) (c .windows-test .taken) (omega arith) (omega arith)) }
+    { value = sym (sym (c .windows .inv) ∙ turn-own (c .args .system) (c .args .windows .now) (c .windows .w-index) (c .windows .left) (c .windows-test .taken) (omega arith) (omega arith)) }
 
 pub returns : need.returns
 returns c =

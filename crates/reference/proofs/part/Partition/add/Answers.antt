@@ -16,11 +16,11 @@ unfolding tasksOf runsOf heardOf
 returns c =
     let xs = held (c .args .self .now .tasks) in
     let many : length xs ≡ length (map taskOf xs) = sym (length-map xs taskOf) in
-    record
-      { value = c .push .ensures .value ∙ ap (λ n. ltb n 16) many
-      ; tasks = map-maybe-pushed taskOf (c .push .result) xs _ _ _ (c .push .ensures .after) (c .new .ensures .plan)
-      ; runs =
+    record {
+      value = c .push .ensures .value ∙ ap (λ n. ltb n 16) many;
+      tasks = map-maybe-pushed taskOf (c .push .result) xs _ _ _ (c .push .ensures .after) (c .new .ensures .plan);
+      runs =
           map-maybe-pushed runOf (c .push .result) xs _ _ _ (c .push .ensures .after)
-            (c .new .ensures .value ∙ (λ j. record { state = Ready; core = fresh ((c .len-number .ensures .value ∙ many) j); began = 0; late = 0 }))
-      ; heard = refl
-      }
+          (c .new .ensures .value ∙ (λ j. record { state = Ready; core = fresh ((c .len-number .ensures .value ∙ many) j); began = 0; late = 0 }));
+      heard = refl;
+    }

@@ -10,7 +10,7 @@ use Rattle.reference.proofs.part.Partition.arrive.Needs as need
 pub returns : need.returns
 unfolding tasksOf runsOf heardOf
 returns c =
-    record
-      { same = refl
-      ; heard = c .push .ensures .after ∙ ap (λ b. cond b (held (c .args .self .now .heard) ++ c .args .byte ∷ []) (held (c .args .self .now .heard))) (c .push .ensures .value)
-      }
+    record {
+      same = refl;
+      heard = c .push .ensures .after ∙ ap (λ b. cond b (held (c .args .self .now .heard) ++ c .args .byte ∷ []) (held (c .args .self .now .heard))) (c .push .ensures .value);
+    }

@@ -19,8 +19,8 @@ returns-in-rest c =
 pub returns : need.returns
 unfolding tasksOf runsOf heardOf
 returns c =
-    record
-      { value = ap Value (c .from .ensures ∙ first-heard _ _ _ (some-first (held (c .args .self .now .heard)) (c .in-Some .byte) (sym (c .get .ensures .value) ∙ c .in-Some .is)))
-      ; same = refl
-      ; heard = c .shift .ensures .after
-      }
+    record {
+      value = ap Value (c .from .ensures ∙ first-heard _ _ _ (some-first (held (c .args .self .now .heard)) (c .in-Some .byte) (sym (c .get .ensures .value) ∙ c .in-Some .is)));
+      same = refl;
+      heard = c .shift .ensures .after;
+    }

@@ -15,8 +15,8 @@ returns-in-rest c = record { value = sym (ap (λ (k : Task). k .priority) (getD-
 pub returns : need.returns
 unfolding tasksOf
 returns c =
-    record
-      { value =
+    record {
+      value =
           c .priority .ensures .value
-          ∙ sym (ap (λ (k : Task). k .priority) (getD-map-some taskOf (held (c .args .self .now .tasks)) (c .args .i) _ noTask (sym (c .get .ensures .value) ∙ c .in-Some .is)))
-      }
+          ∙ sym (ap (λ (k : Task). k .priority) (getD-map-some taskOf (held (c .args .self .now .tasks)) (c .args .i) _ noTask (sym (c .get .ensures .value) ∙ c .in-Some .is)));
+    }

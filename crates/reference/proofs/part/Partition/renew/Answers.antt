@@ -38,19 +38,19 @@ tasks-again c =
     let many : length ls ≡ length rs = length-newRuns rv32i ks 0 ∙ most in
     let here : i < length rs = omega (arith, nth-some-below xs i run found, same-many (c .tasks .self) (c .args .self .now) (c .tasks .inv .0)) in
     let new : getD ls i (runOf run) ≡ runOf (c .renewed .result) =
-          getD-newRuns rv32i ks 0 i (runOf run) (omega arith)
-          ∙ (λ j. record { state = Ready; core = fresh (zero-add i j); began = 0; late = 0 })
-          ∙ sym (c .renewed .ensures .value) in
-    ( ap (map taskOf) (c .put .ensures .after)
-      ∙ map-set taskOf xs i (c .renewed .result)
-      ∙ ap (set (map taskOf xs) i) (c .renewed .ensures .plan)
-      ∙ set-same (map taskOf xs) i (taskOf run) noTask (getD-map-some taskOf xs i run noTask found)
-      ∙ c .tasks .inv .0
-    , ap (map runOf) (c .put .ensures .after)
-      ∙ map-set runOf xs i (c .renewed .result)
-      ∙ ap (λ zs. set zs i (runOf (c .renewed .result))) (c .tasks .inv .1)
-      ∙ renewed-more ls rs i (runOf (c .renewed .result)) (runOf run) many here new
-    , c .tasks .inv .2
+    getD-newRuns rv32i ks 0 i (runOf run) (omega arith)
+    ∙ (λ j. record { state = Ready; core = fresh (zero-add i j); began = 0; late = 0 })
+    ∙ sym (c .renewed .ensures .value) in (
+      ap (map taskOf) (c .put .ensures .after)
+          ∙ map-set taskOf xs i (c .renewed .result)
+          ∙ ap (set (map taskOf xs) i) (c .renewed .ensures .plan)
+          ∙ set-same (map taskOf xs) i (taskOf run) noTask (getD-map-some taskOf xs i run noTask found)
+          ∙ c .tasks .inv .0,
+      ap (map runOf) (c .put .ensures .after)
+          ∙ map-set runOf xs i (c .renewed .result)
+          ∙ ap (λ zs. set zs i (runOf (c .renewed .result))) (c .tasks .inv .1)
+          ∙ renewed-more ls rs i (runOf (c .renewed .result)) (runOf run) many here new,
+      c .tasks .inv .2,
     )
 
 pub returns-after-tasks : need.returns-after-tasks
@@ -59,14 +59,14 @@ returns-after-tasks c =
     let ks = tasksOf (c .args .self .now) in
     let rs = runsOf (c .args .self .now) in
     let most : length ks ≡ length rs = length-map (held (c .args .self .now .tasks)) taskOf ∙ sym (length-map (held (c .args .self .now .tasks)) runOf) in
-    record
-      { tasks = c .tasks .inv .0
-      ; runs =
+    record {
+      tasks = c .tasks .inv .0;
+      runs =
           c .tasks .inv .1
           ∙ renewed-all (newRuns rv32i 0 ks) rs (c .tasks .i) (length-newRuns rv32i ks 0 ∙ most)
-              (omega (arith, same-many (c .tasks .self) (c .args .self .now) (c .tasks .inv .0), few (c .tasks .self .tasks)))
-      ; heard = c .tasks .inv .2
-      }
+          (omega (arith, same-many (c .tasks .self) (c .args .self .now) (c .tasks .inv .0), few (c .tasks .self .tasks)));
+      heard = c .tasks .inv .2;
+    }
 
 pub returns-in-rest : need.returns-in-rest
 unfolding tasksOf runsOf
@@ -74,11 +74,11 @@ returns-in-rest c =
     let ks = tasksOf (c .args .self .now) in
     let rs = runsOf (c .args .self .now) in
     let most : length ks ≡ length rs = length-map (held (c .args .self .now .tasks)) taskOf ∙ sym (length-map (held (c .args .self .now .tasks)) runOf) in
-    record
-      { tasks = c .tasks .inv .0
-      ; runs =
+    record {
+      tasks = c .tasks .inv .0;
+      runs =
           c .tasks .inv .1
           ∙ renewed-all (newRuns rv32i 0 ks) rs (c .tasks .i) (length-newRuns rv32i ks 0 ∙ most)
-              (omega (arith, same-many (c .tasks .self) (c .args .self .now) (c .tasks .inv .0), nth-none-past _ (c .tasks .i) (sym (c .get .ensures .value) ∙ c .in-rest .is)))
-      ; heard = c .tasks .inv .2
-      }
+          (omega (arith, same-many (c .tasks .self) (c .args .self .now) (c .tasks .inv .0), nth-none-past _ (c .tasks .i) (sym (c .get .ensures .value) ∙ c .in-rest .is)));
+      heard = c .tasks .inv .2;
+    }

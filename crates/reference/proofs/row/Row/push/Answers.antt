@@ -18,7 +18,7 @@ pub returns : need.returns
 unfolding held
 returns g c =
     let l : c .args .self .now .count ≤ length (c .args .self .now .items) = omega arith in
-    record
-      { value = sym (ap (λ k. ltb k (g .N)) (length-take-le _ (c .args .self .now .items) l) ∙ lt-ltb _ _ (omega arith))
-      ; after = take-more-set (c .args .self .now .items) (c .args .self .now .count) (c .args .x) (omega arith)
-      }
+    record {
+      value = sym (ap (λ k. ltb k (g .N)) (length-take-le _ (c .args .self .now .items) l) ∙ lt-ltb _ _ (omega arith));
+      after = take-more-set (c .args .self .now .items) (c .args .self .now .count) (c .args .x) (omega arith);
+    }

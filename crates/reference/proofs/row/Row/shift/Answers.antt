@@ -19,8 +19,8 @@ loop-k-again g c =
 pub returns : need.returns
 unfolding held
 returns g c =
-    record
-      { after =
+    record {
+      after =
           ap (λ n. take (n - 1) (c .loop-k .self .items)) (c .loop-k .inv .1)
-          ∙ moved-down (c .args .self .now .items) (c .loop-k .self .items) (c .args .self .now .count) (c .loop-k .inv .0) (omega arith) (λ j d h. c .loop-k .inv .2 j d (omega arith))
-      }
+          ∙ moved-down (c .args .self .now .items) (c .loop-k .self .items) (c .args .self .now .count) (c .loop-k .inv .0) (omega arith) (λ j d h. c .loop-k .inv .2 j d (omega arith));
+    }

@@ -14,31 +14,31 @@ returns-in-rest c = record { value = checked-other _ _ (runOf (c .args .self)) (
 
 pub returns-then-time-self : need.returns-then-time-self
 unfolding runOf taskOf
-returns-then-time-self c = 
-    record
-      { value = elim (c .then-time-self .came)
-          [ then-time-self·by·then-time-self w ↦ checked-early (c .args .self .plan) _ (runOf (c .args .self)) (omega arith)
-          | then-time-self·by·else-time-self·then-time-self-2 w ↦ checked-early (c .args .self .plan) _ (runOf (c .args .self)) (omega arith)
-          ]
-      ; plan = refl
-      }
+returns-then-time-self c =
+    record {
+      value = elim (c .then-time-self .came) [
+        | then-time-self·by·then-time-self w ↦ checked-early (c .args .self .plan) _ (runOf (c .args .self)) (omega arith)
+        | then-time-self·by·else-time-self·then-time-self-2 w ↦ checked-early (c .args .self .plan) _ (runOf (c .args .self)) (omega arith)
+      ];
+      plan = refl;
+    }
 
 pub returns-then-from-self : need.returns-then-from-self
 unfolding runOf taskOf
 returns-then-from-self c =
-    record
-      { value =
+    record {
+      value =
           (λ j. record { state = Stopped; core = coreOf (c .args .self .core); began = c .args .self .began; late = add-one (c .args .self .late) j })
-          ∙ checked-stops (c .args .self .plan) _ (runOf (c .args .self)) (c .in-Ready .is) (omega arith) (omega arith)
-      ; plan = refl
-      }
+          ∙ checked-stops (c .args .self .plan) _ (runOf (c .args .self)) (c .in-Ready .is) (omega arith) (omega arith);
+      plan = refl;
+    }
 
 pub returns : need.returns
 unfolding runOf taskOf
 returns c =
-    record
-      { value =
+    record {
+      value =
           (λ j. record { state = Waiting; core = coreOf (c .args .self .core); began = c .args .self .began; late = add-one (c .args .self .late) j })
-          ∙ checked-waits (c .args .self .plan) _ (runOf (c .args .self)) (c .in-Ready .is) (omega arith) (omega arith)
-      ; plan = refl
-      }
+          ∙ checked-waits (c .args .self .plan) _ (runOf (c .args .self)) (c .in-Ready .is) (omega arith) (omega arith);
+      plan = refl;
+    }

@@ -14,21 +14,21 @@ returns-in-rest c = record { value = woken-other rv32i _ _ _ (runOf (c .args .se
 
 pub returns-then-time-self : need.returns-then-time-self
 unfolding runOf taskOf
-returns-then-time-self c = 
-    record
-      { value = elim (c .then-time-self .came)
-          [ then-time-self·by·then-time-self w ↦ woken-early rv32i (c .args .self .plan) _ _ (runOf (c .args .self)) (omega arith)
-          | then-time-self·by·else-time-self·then-time-self-2 w ↦ woken-early rv32i (c .args .self .plan) _ _ (runOf (c .args .self)) (omega arith)
-          ]
-      ; plan = refl
-      }
+returns-then-time-self c =
+    record {
+      value = elim (c .then-time-self .came) [
+        | then-time-self·by·then-time-self w ↦ woken-early rv32i (c .args .self .plan) _ _ (runOf (c .args .self)) (omega arith)
+        | then-time-self·by·else-time-self·then-time-self-2 w ↦ woken-early rv32i (c .args .self .plan) _ _ (runOf (c .args .self)) (omega arith)
+      ];
+      plan = refl;
+    }
 
 pub returns : need.returns
 unfolding runOf taskOf
 returns c =
-    record
-      { value =
+    record {
+      value =
           (λ j. record { state = Ready; core = c .new .ensures .value j; began = c .args .self .began + c .from-period .ensures j; late = c .args .self .late })
-          ∙ woken-now rv32i (c .args .self .plan) _ _ (runOf (c .args .self)) (c .in-Waiting .is) (omega arith)
-      ; plan = refl
-      }
+          ∙ woken-now rv32i (c .args .self .plan) _ _ (runOf (c .args .self)) (c .in-Waiting .is) (omega arith);
+      plan = refl;
+    }
