@@ -19,7 +19,7 @@ mod tests {
     // What the instruction of a word does where x5 and x6 hold a and b.
     fn effect_of(word: u32, a: u32, b: u32) -> Effect {
         match decode(word) {
-            Some(i) => execute(i, PC, a, b, SIZE),
+            Some(i) => execute(i, PC, a, b, SIZE as usize),
             None => Effect::Wrong,
         }
     }
