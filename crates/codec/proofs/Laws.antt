@@ -11,7 +11,7 @@ use Rattle.std.proofs.shelf.Lists.{length-append, length-take, length-drop, tak
 use Rattle.bytes.specs.Bytes.{at, bytesOf}
 use Rattle.bytes.specs.Bytes as byte
 use Rattle.bytes.proofs.Numbers.{length-bytesOf, number-bytesOf, bytesOf-number}
-use Rattle.codec.specs.Codec.{Outcome, got, refused, follow, mapOut, Codec, Bytes, number, raw, chain, each, readEach, writeEach, ProperEach, times, named, whole}
+use Rattle.codec.specs.Codec.{Outcome, got, refused, follow, mapOut, Codec, Bytes, number, raw, chain, _▸_, each, readEach, writeEach, ProperEach, times, named, whole}
 use Rattle.codec.specs.Lawful.{Stands, Read, Lawful}
 use Rattle.codec.proofs.Stand.{stands-within, stands-left, stands-right, stands-both, bytes-part}
 use Rattle.codec.proofs.Outcomes.{got-value, got-place, follow-got, map-got, cond-got}
@@ -122,6 +122,9 @@ module _ {A B : Type 0} (c : Codec A) (d : A → Codec B) (lc : Lawful c) (ld : 
               ends = omega (arith, ra .ends, rb .ends, length-append (c .write a) (d a .write b));
             };
       }
+
+pub ▸-law : {A B : Type 0} (c : Codec A) (d : Codec B) → Lawful c → Lawful d → Lawful (c ▸ d)
+▸-law c d lc ld = chain-law c (λ a. d) lc (λ a p. ld)
 
 module _ {A B : Type 0} (to : A → B) (from : B → A) (c : Codec A) (lc : Lawful c) (restores : (a : A) → c .Proper a → from (to a) ≡ a) (names : (b : B) → c .Proper (from b) → to (from b) ≡ b) where
   pub named-law : Lawful (named to from c)

@@ -66,6 +66,11 @@ chain c d =
       Proper = λ ab. c .Proper (ab .0) × d (ab .0) .Proper (ab .1);
     }
 
+infixr 40 _▸_
+-- One thing, and behind it another that does not.
+abbrev pub _▸_ : {A B : Type 0} → Codec A → Codec B → Codec (A × B)
+c ▸ d = chain c (λ a. d)
+
 abbrev pub readEach : {X A : Type 0} → (X → Codec A) → List X → List ℕ → ℕ → Outcome (List A)
 readEach f [] xs k = got [] k
 readEach f (y ∷ ys) xs k = follow (f y .read xs k) (λ a j. mapOut (λ l. a ∷ l) (readEach f ys xs j))

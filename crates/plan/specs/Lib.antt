@@ -1,0 +1,4 @@
+pub mod Refusals
+pub mod Layout
+pub mod Bounds
+pub mod Promise

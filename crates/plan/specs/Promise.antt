@@ -1,0 +1,16 @@
+-- What is promised of plans as bytes. Each is a statement, whose proof is owed.
+use mathlib.Core.List.{List}
+use mathlib.Core.Path.{_≡_}
+use Prim.Native.Nat.{ℕ}
+use lib.ListN.{length}
+use Rattle.codec.specs.Codec.{got, Bytes}
+use Rattle.plan.specs.Layout.{Image, readPlan, writePlan}
+use Rattle.plan.specs.Bounds.{InBounds}
+
+-- Every plan in bounds is read from its bytes.
+abbrev pub ReadsAll : Type 0
+ReadsAll = (i : Image) → InBounds i → readPlan (writePlan i) ≡ got i (length (writePlan i))
+
+-- What is read from bytes is in bounds, and these are its bytes.
+abbrev pub WritesBack : Type 0
+WritesBack = (xs : List ℕ) (i : Image) (j : ℕ) → Bytes xs → readPlan xs ≡ got i j → InBounds i × (writePlan i ≡ xs)
