@@ -1,3 +1,4 @@
 pub mod Stand
 pub mod Outcomes
 pub mod Laws
+pub mod Steps

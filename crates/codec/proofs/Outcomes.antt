@@ -25,6 +25,10 @@ pub map-got : {A B : Type 0} (f : A → B) (o : Outcome A) (b : B) (i : ℕ) →
 map-got f (got a j) b i e = (a, ap (got a) (got-place e), got-value e)
 map-got f (refused n p) b i e = absurd (never e)
 
+pub map-refused : {A B : Type 0} (f : A → B) (o : Outcome A) (n p : ℕ) → mapOut f o ≡ refused n p → o ≡ refused n p
+map-refused f (got a j) n p e = absurd (never (sym e))
+map-refused f (refused m q) n p e = cc
+
 pub cond-got :
     {A : Type 0} (t : Bool) (x : Outcome A) (n p : ℕ) (a : A) (j : ℕ) → cond t x (refused n p) ≡ got a j → (t ≡ true) × (x ≡ got a j)
 cond-got true x n p a j e = (refl, e)

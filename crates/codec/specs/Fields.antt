@@ -23,3 +23,9 @@ abbrev pub Within : (lo hi : ℕ) → Field → Type 0
 Within lo hi (Got v) = (lo ≤ v) × (v ≤ hi)
 Within lo hi Missing = Unit {0}
 Within lo hi Fault = Unit {0}
+
+-- What was found lies within the bytes.
+abbrev pub Inside : List ℕ → (k n : ℕ) → Field → Type 0
+Inside xs k n (Got v) = k + n ≤ length xs
+Inside xs k n Missing = Unit {0}
+Inside xs k n Fault = Unit {0}

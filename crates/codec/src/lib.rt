@@ -13,7 +13,7 @@ ghost use mathlib.Core.Path.{_≡_};
 ghost use Prim.Native.Nat.{ℕ};
 ghost use Rattle.codec.specs.Codec.{number};
 ghost use Rattle.codec.specs.Lawful.{NumberLaw, RawLaw};
-ghost use Rattle.codec.specs.Fields.{outcome, octets, Within};
+ghost use Rattle.codec.specs.Fields.{outcome, octets, Within, Inside};
 
 /// How many bytes a number has.
 #[derive(Clone, Copy)]
@@ -38,6 +38,7 @@ pub enum Field {
 pub fn number_at(b: &[u8], k: usize, width: Width, lo: u32, hi: u32) -> Field
     ensures value { λ r. ⌜ ((missing fault : ℕ) → outcome missing fault (now (b .entry)) k (octets width) r ≡ number missing fault (octets width) lo hi .read (now (b .entry)) k) ⌝ }
     ensures bound { λ r. ⌜ Within lo hi r ⌝ }
+    ensures room { λ r. ⌜ Inside (now (b .entry)) k (octets width) r ⌝ }
 {
     let n = match width {
         Width::One => 1,

@@ -1,2 +1,3 @@
 pub mod Lawfulness
 pub mod Bounded
+pub mod Walk

@@ -2,3 +2,4 @@ pub mod Refusals
 pub mod Layout
 pub mod Bounds
 pub mod Promise
+pub mod Ends

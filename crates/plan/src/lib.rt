@@ -1,5 +1,8 @@
 //! Plans and rows as bytes.
+pub mod check;
 pub mod head;
+pub mod reach;
+mod record;
 pub mod refusal;
 
 ghost use Rattle.plan.specs.Promise.{ReadsAll, WritesBack};
