@@ -4,7 +4,7 @@ use mathlib.Core.Bool.{Bool, true, false, cond}
 use mathlib.Core.List.{List, [], _∷_, _++_}
 use Prim.Native.Nat.{ℕ}
 use native.Mathlib.Omega.{arith}
-use Rattle.codec.specs.Codec.{Outcome, got, refused, follow, mapOut}
+use Rattle.codec.specs.Codec.{Outcome, got, refused, follow, mapOut, Codec, chain}
 
 pub never : {A : Type 0} {a : A} {j n p : ℕ} → refused n p ≡ got a j → ⊥
 never e = let z : _≡_ {A = ℕ} 0 1 = cc in omega arith
@@ -33,3 +33,12 @@ pub cond-got :
     {A : Type 0} (t : Bool) (x : Outcome A) (n p : ℕ) (a : A) (j : ℕ) → cond t x (refused n p) ≡ got a j → (t ≡ true) × (x ≡ got a j)
 cond-got true x n p a j e = (refl, e)
 cond-got false x n p a j e = absurd (never e)
+
+-- What a pair that was read was made of.
+pub chain-got :
+    {A B : Type 0} (c : Codec A) (d : A → Codec B) (xs : List ℕ) (k i : ℕ) (ab : A × B) → chain c d .read xs k ≡ got ab i
+    → (a : A) × (j : ℕ) × (b : B) × (c .read xs k ≡ got a j) × (d a .read xs j ≡ got b i) × ((a, b) ≡ ab)
+chain-got c d xs k i ab e =
+    let p = follow-got (c .read xs k) _ ab i e in
+    let q = map-got (λ b. (p .0, b)) (d (p .0) .read xs (p .1)) ab i (p .3) in
+    (p .0, p .1, q .0, p .2, q .1, q .2)

@@ -8,16 +8,20 @@ use crate::record::task_at;
 use crate::record::window_at;
 use crate::refusal::Refusal;
 ghost use mathlib.Core.Path.{_≡_};
+ghost use mathlib.Core.Bool.{true};
 ghost use Prim.Native.Nat.{_+_, _*_, _≤_};
 ghost use lib.ListN.{length};
 ghost use Rattle.std.specs.Vec.{made};
 ghost use Rattle.codec.specs.Codec.{times, mapOut};
+ghost use Rattle.std.specs.Results.{isOk};
 ghost use Rattle.plan.specs.Refusals.{told};
+ghost use Rattle.plan.specs.Taken.{accepts, imageIn};
+ghost use Rattle.plan.specs.Promise.{Exactly, Says};
 ghost use Rattle.plan.specs.Ends.{seen, ended, reached, pagesOf, fits};
 ghost use Rattle.plan.specs.Layout.{window, channel, task, partition, readPlan};
 
 /// The bytes of a page.
-const PAGE: usize = 4096;
+pub(crate) const PAGE: usize = 4096;
 
 /// The place behind the windows that begin at `from`.
 fn windows_end(b: &[u8], from: usize, h: Header) -> Result<usize, Refusal>
@@ -48,7 +52,7 @@ fn channels_end(b: &[u8], from: usize, h: Header) -> Result<usize, Refusal>
 }
 
 /// The place behind the tasks, of which there are `n`, that begin at `from`.
-fn tasks_end(b: &[u8], from: usize, n: u8) -> Result<usize, Refusal>
+pub(crate) fn tasks_end(b: &[u8], from: usize, n: u8) -> Result<usize, Refusal>
     requires { ⌜ from ≤ length (now b) ⌝ }
     ensures value { λ r. ⌜ ended r ≡ seen (times n task .read (now (b .entry)) from) ⌝ }
     ensures room { λ r. ⌜ made r (λ j. j ≤ length (now (b .entry))) ⌝ }
@@ -77,9 +81,8 @@ pub(crate) fn part_end(b: &[u8], k: usize) -> Result<Reach, Refusal>
 
 /// The pages of `n` partitions, and the place behind their parts, which begin at `from`.
 pub(crate) fn parts_end(b: &[u8], from: usize, n: u8) -> Result<Reach, Refusal>
-    requires { ⌜ from ≤ length (now b) ⌝ }
     ensures value { λ r. ⌜ reached r ≡ mapOut pagesOf (times n partition .read (now (b .entry)) from) ⌝ }
-    ensures room { λ r. ⌜ made r (λ e. e .end ≤ length (now (b .entry))) ⌝ }
+    ensures room { λ r. ⌜ (from ≤ length (now (b .entry)) → made r (λ e. e .end ≤ length (now (b .entry)))) ⌝ }
     ensures bound { λ r. ⌜ made r (λ e. e .pages ≤ 65535 * 255) ⌝ }
 {
     let mut k = from;
@@ -109,8 +112,8 @@ fn memories_fit(b: &[u8], r: Reach) -> Result<(), Refusal>
     Ok(())
 }
 
-/// Whether the bytes are a plan, and else why not.
-pub fn check(b: &[u8]) -> Result<(), Refusal>
+/// The plan's parts, front to back, and the first refusal on the way.
+fn walk(b: &[u8]) -> Result<(), Refusal>
     ensures value { λ r. ⌜ told (length (now (b .entry))) r ≡ seen (readPlan (now (b .entry))) ⌝ }
 {
     let h = header_at_front(b)?;
@@ -118,4 +121,14 @@ pub fn check(b: &[u8]) -> Result<(), Refusal>
     let channels = channels_end(b, windows, h)?;
     let parts = parts_end(b, channels, h.partitions)?;
     memories_fit(b, parts)
+}
+
+/// Whether the bytes are a plan, and else why not. Those that are taken are exactly the bytes of plans in bounds.
+pub fn check(b: &[u8]) -> Result<(), Refusal>
+    ensures value { λ r. ⌜ told (length (now (b .entry))) r ≡ seen (readPlan (now (b .entry))) ⌝ }
+    ensures taken { λ r. ⌜ isOk r ≡ accepts (now (b .entry)) ⌝ }
+    ensures exact { λ r. ⌜ Exactly (now (b .entry)) (isOk r) ⌝ }
+    ensures plan { λ _. ⌜ (accepts (now (b .entry)) ≡ true → Says (now (b .entry)) (imageIn (now (b .entry)))) ⌝ }
+{
+    walk(b)
 }

@@ -1,9 +1,11 @@
 //! Plans and rows as bytes.
 pub mod check;
+pub mod extent;
 pub mod head;
 pub mod reach;
 mod record;
 pub mod refusal;
+pub mod view;
 
 ghost use Rattle.plan.specs.Promise.{ReadsAll, WritesBack};
 

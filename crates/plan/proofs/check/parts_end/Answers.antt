@@ -5,13 +5,13 @@ use Rattle.plan.proofs.Walk.{parts-step, parts-stop, parts-start, parts-done}
 use Rattle.plan.proofs.check.parts_end.Needs as need
 
 pub loop-i-holds : need.loop-i-holds
-loop-i-holds c = (parts-start (c .args .n) (c .args .b .now) (c .args .from), c .pre, omega arith)
+loop-i-holds c = (parts-start (c .args .n) (c .args .b .now) (c .args .from), (λ h. h), omega arith)
 
 pub loop-i-again : need.loop-i-again
 loop-i-again c = (
   parts-step (c .args .n) (c .loop-i .-i) (c .loop-i .pages) (c .args .b .now) (c .loop-i .k) (c .in-Continue-part .part .pages) (c .in-Continue-part .part .end) (c .loop-i-test .taken) (c .in-Continue-part .ensures tt .value)
       ∙ c .loop-i .inv .0,
-  c .in-Continue-part .ensures tt .room,
+  (λ h. c .in-Continue-part .ensures tt .room),
   omega (arith, c .in-Continue-part .ensures tt .bound, c .loop-i .inv .2),
 )
 
@@ -23,7 +23,7 @@ returns-in-Break-part c =
       value =
           parts-stop (c .args .n) (c .loop-i .-i) (c .loop-i .pages) (c .args .b .now) (c .loop-i .k) _ _ (c .loop-i-test .taken) (c .in-Break-part .ensures tt .value)
           ∙ c .loop-i .inv .0;
-      room = tt;
+      room = λ h. tt;
       bound = tt;
     }
 

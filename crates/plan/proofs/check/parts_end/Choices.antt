@@ -10,5 +10,5 @@ use Rattle.plan.proofs.check.parts_end.Given as given
 abbrev pub Inv-loop-i : given.InvT-loop-i
 Inv-loop-i l =
     (mapOut (λ ps. l .pages + pagesOf ps) (times (l .n - l .-i) partition .read (l .b) (l .k)) ≡ mapOut pagesOf (times (l .n) partition .read (l .b) (l .from)))
-    × (l .k ≤ length (l .b))
+    × (l .from ≤ length (l .b) → l .k ≤ length (l .b))
     × (l .pages ≤ 65535 * l .-i)
