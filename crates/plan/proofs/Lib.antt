@@ -1,0 +1,5 @@
+pub mod Lawfulness
+pub mod Bounded
+pub mod Walk
+pub mod Opened
+pub mod Exact

@@ -1,0 +1,5 @@
+use Rattle.plan.proofs.Exact.{reads-all, writes-back}
+use Rattle.plan.proofs.round_trips_stand.Needs as need
+
+pub returns : need.returns
+returns c = record { reads = reads-all; writes = writes-back }

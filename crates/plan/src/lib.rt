@@ -1,0 +1,19 @@
+//! Plans and rows as bytes.
+pub mod check;
+pub mod extent;
+pub mod head;
+pub mod reach;
+mod record;
+pub mod refusal;
+pub mod view;
+
+ghost use Rattle.plan.specs.Promise.{ReadsAll, WritesBack};
+
+/// Both round trips: every plan in bounds, with its memories, is read from the bytes that are written for it; and what is
+/// read from bytes is in bounds, and its bytes are these.
+pub fn round_trips_stand() -> u8
+    ensures reads { λ _. ⌜ ReadsAll ⌝ }
+    ensures writes { λ _. ⌜ WritesBack ⌝ }
+{
+    0
+}
