@@ -3,6 +3,8 @@ use reference::shown::Shown;
 use std::env;
 use std::error::AnyError;
 
+mod files;
+mod laid;
 mod worked;
 
 /// Prints what was shown, partition by partition: the partition, the tick in decimal, and the byte in two hexadecimal
