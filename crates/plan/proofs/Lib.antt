@@ -3,3 +3,4 @@ pub mod Bounded
 pub mod Walk
 pub mod Opened
 pub mod Exact
+pub mod Arrivals

@@ -5,3 +5,5 @@ pub mod Promise
 pub mod Ends
 pub mod Taken
 pub mod Views
+pub mod Rows
+pub mod RowViews

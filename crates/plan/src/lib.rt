@@ -5,6 +5,8 @@ pub mod head;
 pub mod reach;
 mod record;
 pub mod refusal;
+pub mod row;
+pub mod rows;
 pub mod view;
 
 ghost use Rattle.plan.specs.Promise.{ReadsAll, WritesBack};
