@@ -1,11 +1,25 @@
 //! The model as a program to be run: prints what each partition shows, and when.
+use files::Outcome;
+use plan::check::check;
+use plan::refusal::Refusal;
+use plan::view::View;
 use reference::shown::Shown;
 use std::env;
 use std::error::AnyError;
+use std::fs;
 
 mod files;
 mod laid;
 mod worked;
+
+const USAGE: &str = "usage: world PLAN ROWS | world PLAN --ticks N | world --worked";
+
+const HELP: &str =
+    "world PLAN ROWS        runs a plan on rows of bytes from outside, a tick for each row
+world PLAN --ticks N   runs a plan for N ticks in which nothing comes from outside
+world --worked         runs the worked plans
+It prints '0 at 19: 11' for each byte shown: the partition, the tick in decimal, the byte in two hexadecimal digits;
+or 'refused N at P': the refusal's number and its place in the file. The status is 0 when all was done, else 1.";
 
 /// Prints what was shown, partition by partition: the partition, the tick in decimal, and the byte in two hexadecimal
 /// digits.
@@ -22,6 +36,35 @@ fn print_shown(rt: &LibcRuntime, shown: &[Shown]) -> Result<(), AnyError> {
     Ok(())
 }
 
+/// A refusal's number and place.
+fn number_and_place(r: Refusal) -> (u8, usize) {
+    match r {
+        Refusal::Short(p) => (1, p),
+        Refusal::Long(p) => (1, p),
+        Refusal::Name => (2, 0),
+        Refusal::Number(p) => (3, p),
+        Refusal::Frames(p) => (4, p),
+        Refusal::Row(p) => (5, p),
+        Refusal::Shown(p) => (6, p),
+    }
+}
+
+fn print_refusal(rt: &LibcRuntime, r: Refusal) -> Result<bool, AnyError> {
+    let (number, place) = number_and_place(r);
+    println!(rt, "refused {number} at {place}")?;
+    Ok(false)
+}
+
+/// Whether all was done.
+fn print_outcome(rt: &LibcRuntime, outcome: Outcome) -> Result<bool, AnyError> {
+    let Outcome { shown, refused } = outcome;
+    print_shown(rt, shown.as_slice())?;
+    match refused {
+        None => Ok(true),
+        Some(r) => print_refusal(rt, r),
+    }
+}
+
 fn run_case(rt: &LibcRuntime, case: &worked::Case) -> Result<(), AnyError> {
     let name = case.name;
     println!(rt, "{name}")?;
@@ -30,23 +73,76 @@ fn run_case(rt: &LibcRuntime, case: &worked::Case) -> Result<(), AnyError> {
 }
 
 /// Runs the worked plans, each under its name.
-fn run_worked(rt: &LibcRuntime) -> Result<(), AnyError> {
+fn run_worked(rt: &LibcRuntime) -> Result<bool, AnyError> {
     run_case(rt, &worked::SHOWS_CLOCK)?;
     run_case(rt, &worked::KEEPS_LAST)?;
     run_case(rt, &worked::GOES_FIRST)?;
-    run_case(rt, &worked::HAS_ONE_PLACE)
+    run_case(rt, &worked::HAS_ONE_PLACE)?;
+    Ok(true)
 }
 
-fn start(rt: &LibcRuntime) -> Result<(), AnyError> {
-    let mut words = env::args(rt)?.skip(1);
-    let first = words.next();
-    let more = words.next().is_some();
-    match first {
-        Some(word) if word.as_str() == "--worked" && !more => run_worked(rt),
-        _ => Err("usage: world --worked    runs the worked plans".into()),
+fn with_rows(rt: &LibcRuntime, plan: &[u8], rows: &[u8]) -> Result<bool, AnyError> {
+    match check(plan) {
+        Ok(()) => {
+            let view = View::new(plan);
+            let outcome = files::run_rows(rt.alloc(), &view, rows)?;
+            print_outcome(rt, outcome)
+        }
+        Err(r) => print_refusal(rt, r),
     }
 }
 
+fn with_ticks(rt: &LibcRuntime, plan: &[u8], ticks: u64) -> Result<bool, AnyError> {
+    match check(plan) {
+        Ok(()) => {
+            let view = View::new(plan);
+            let outcome = files::run_ticks(rt.alloc(), &view, ticks)?;
+            print_outcome(rt, outcome)
+        }
+        Err(r) => print_refusal(rt, r),
+    }
+}
+
+fn on_rows(rt: &LibcRuntime, plan: &str, rows: &str) -> Result<bool, AnyError> {
+    let bytes = fs::read(rt, plan)?;
+    let row_bytes = fs::read(rt, rows)?;
+    with_rows(rt, bytes.as_slice(), row_bytes.as_slice())
+}
+
+fn on_ticks(rt: &LibcRuntime, plan: &str, number: &str) -> Result<bool, AnyError> {
+    let ticks = number.parse::<u64>()?;
+    let bytes = fs::read(rt, plan)?;
+    with_ticks(rt, bytes.as_slice(), ticks)
+}
+
+/// Does what the words of the command say; whether all was done.
+fn start(rt: &LibcRuntime, words: &[String]) -> Result<bool, AnyError> {
+    match words {
+        [a] if a.as_str() == "--worked" => run_worked(rt),
+        [a] if a.as_str() == "--help" => {
+            println!(rt, "{HELP}")?;
+            Ok(true)
+        }
+        [a, b] => on_rows(rt, a.as_str(), b.as_str()),
+        [a, b, c] if b.as_str() == "--ticks" => on_ticks(rt, a.as_str(), c.as_str()),
+        _ => Err(USAGE.into()),
+    }
+}
+
+fn words_of(rt: &LibcRuntime) -> Result<Vec<String>, AnyError> {
+    let mut words = Vec::new(rt.alloc());
+    for word in env::args(rt)?.skip(1) {
+        words.push(word)?;
+    }
+    Ok(words)
+}
+
+fn go(rt: &LibcRuntime) -> Result<bool, AnyError> {
+    let words = words_of(rt)?;
+    start(rt, words.as_slice())
+}
+
 fn main(rt: LibcRuntime) -> Result<(), AnyError> {
-    rt.report(start(&rt))
+    let done = rt.report(go(&rt))?;
+    if done { Ok(()) } else { Err("refused".into()) }
 }
