@@ -4,3 +4,4 @@ pub mod Walk
 pub mod Opened
 pub mod Exact
 pub mod Arrivals
+pub mod Writing

@@ -7,3 +7,4 @@ pub mod Taken
 pub mod Views
 pub mod Rows
 pub mod RowViews
+pub mod Drafts

@@ -1,5 +1,6 @@
 //! Plans and rows as bytes.
 pub mod check;
+pub mod draft;
 pub mod extent;
 pub mod head;
 pub mod reach;
@@ -8,6 +9,7 @@ pub mod refusal;
 pub mod row;
 pub mod rows;
 pub mod view;
+mod write;
 
 ghost use Rattle.plan.specs.Promise.{ReadsAll, WritesBack};
 
