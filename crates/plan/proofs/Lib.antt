@@ -5,3 +5,4 @@ pub mod Opened
 pub mod Exact
 pub mod Arrivals
 pub mod Writing
+pub mod Drafted

@@ -53,19 +53,13 @@ abbrev pub cutMemories : List PartHead → List ℕ → List (List ℕ)
 cutMemories [] m = []
 cutMemories (p ∷ ps) m = take (4096 * p .pages) m ∷ cutMemories ps (drop (4096 * p .pages) m)
 
--- The plan with its memories that a draft is.
+-- The plan with its memories that flat rows are.
+abbrev pub imageFrom : ℕ → List Window → List Channel → List PartHead → List Task → List ℕ → Image
+imageFrom s ws cs ps ts m =
+    record { plan = record { system = s; windows = ws; channels = cs; tasks = cutTasks ps ts }; memories = cutMemories ps m }
+
 abbrev pub draftImage : Draft → Image
-draftImage d =
-    record {
-      plan =
-          record {
-            system = d .system;
-            windows = now (d .windows);
-            channels = now (d .channels);
-            tasks = cutTasks (now (d .parts)) (now (d .tasks));
-          };
-      memories = cutMemories (now (d .parts)) (now (d .memories));
-    }
+draftImage d = imageFrom (d .system) (now (d .windows)) (now (d .channels)) (now (d .parts)) (now (d .tasks)) (now (d .memories))
 
 -- No more of each than a plan may have, and the tasks and the memory that the parts say.
 pub record Counted (d : Draft) : Type 0 where

@@ -8,6 +8,7 @@ mod record;
 pub mod refusal;
 pub mod row;
 pub mod rows;
+mod sums;
 pub mod view;
 mod write;
 
