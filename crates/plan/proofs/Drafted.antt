@@ -14,7 +14,8 @@ use Rattle.model.specs.declared.plan.Task.{Task}
 use Rattle.plan.specs.declared.head.Header.{Header}
 use Rattle.plan.specs.declared.head.PartHead.{PartHead}
 use Rattle.plan.specs.Layout.{Image, Part, header, window, channel, task, partition, memory, beside, fromImage, image, writePlan}
-use Rattle.plan.specs.Drafts.{windowBytes, channelBytes, taskBytes, headBytes, partsBytes, tasksSaid, pagesSaid, cutTasks, cutMemories, imageFrom}
+use Rattle.plan.specs.Drafts.{windowBytes, channelBytes, taskBytes, headBytes, partsBytes}
+use Rattle.plan.specs.Flat.{tasksSaid, pagesSaid, cutTasks, cutMemories, imageFrom}
 use Rattle.plan.proofs.Writing.{behind, length-joined, window-bytes, channel-bytes, task-bytes, head-bytes, header-bytes}
 
 times-joined : {A : Type 0} (c : Codec A) (l : List A) → times (length l) c .write l ≡ joined (c .write) l

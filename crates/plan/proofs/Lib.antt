@@ -6,3 +6,4 @@ pub mod Exact
 pub mod Arrivals
 pub mod Writing
 pub mod Drafted
+pub mod Flattened

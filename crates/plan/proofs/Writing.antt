@@ -15,7 +15,8 @@ use Rattle.model.specs.declared.plan.Task.{Task}
 use Rattle.plan.specs.declared.head.Header.{Header}
 use Rattle.plan.specs.declared.head.PartHead.{PartHead}
 use Rattle.plan.specs.Layout.{header}
-use Rattle.plan.specs.Drafts.{windowBytes, channelBytes, taskBytes, headBytes, partsBytes, tasksSaid}
+use Rattle.plan.specs.Drafts.{windowBytes, channelBytes, taskBytes, headBytes, partsBytes}
+use Rattle.plan.specs.Flat.{tasksSaid}
 
 -- A write right behind another.
 pub put-more : (xs ys zs : List ℕ) (k j : ℕ) → k ≤ length xs → j ≡ k + length ys → put (put xs k ys) j zs ≡ put xs k (ys ++ zs)

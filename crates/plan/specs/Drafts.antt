@@ -16,6 +16,7 @@ use Rattle.plan.specs.declared.draft.Draft.{Draft}
 use Rattle.plan.specs.declared.draft.Unwritten.{Unwritten}
 use Rattle.plan.specs.declared.draft.Unwritten.the-variants.{Counts, Short}
 use Rattle.plan.specs.Layout.{Image, window, channel, task, partHead, writePlan}
+use Rattle.plan.specs.Flat.{tasksSaid, pagesSaid, imageFrom}
 
 -- The bytes of each record: its range does not matter to them.
 abbrev pub windowBytes : Window → List ℕ
@@ -35,29 +36,7 @@ abbrev pub partsBytes : List PartHead → List Task → List ℕ
 partsBytes [] ts = []
 partsBytes (p ∷ ps) ts = headBytes p ++ (joined taskBytes (take (p .tasks) ts) ++ partsBytes ps (drop (p .tasks) ts))
 
--- How many tasks, and pages, the parts say.
-abbrev pub tasksSaid : List PartHead → ℕ
-tasksSaid [] = 0
-tasksSaid (p ∷ ps) = p .tasks + tasksSaid ps
-
-abbrev pub pagesSaid : List PartHead → ℕ
-pagesSaid [] = 0
-pagesSaid (p ∷ ps) = p .pages + pagesSaid ps
-
--- Each partition's own, out of the rows of all.
-abbrev pub cutTasks : List PartHead → List Task → List (List Task)
-cutTasks [] ts = []
-cutTasks (p ∷ ps) ts = take (p .tasks) ts ∷ cutTasks ps (drop (p .tasks) ts)
-
-abbrev pub cutMemories : List PartHead → List ℕ → List (List ℕ)
-cutMemories [] m = []
-cutMemories (p ∷ ps) m = take (4096 * p .pages) m ∷ cutMemories ps (drop (4096 * p .pages) m)
-
--- The plan with its memories that flat rows are.
-abbrev pub imageFrom : ℕ → List Window → List Channel → List PartHead → List Task → List ℕ → Image
-imageFrom s ws cs ps ts m =
-    record { plan = record { system = s; windows = ws; channels = cs; tasks = cutTasks ps ts }; memories = cutMemories ps m }
-
+-- The plan with its memories that a draft is.
 abbrev pub draftImage : Draft → Image
 draftImage d = imageFrom (d .system) (now (d .windows)) (now (d .channels)) (now (d .parts)) (now (d .tasks)) (now (d .memories))
 

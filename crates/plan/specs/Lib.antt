@@ -1,6 +1,7 @@
 pub mod Refusals
 pub mod Layout
 pub mod Bounds
+pub mod Flat
 pub mod Promise
 pub mod Ends
 pub mod Taken

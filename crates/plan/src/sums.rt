@@ -3,7 +3,7 @@ use crate::head::PartHead;
 ghost use mathlib.Core.Path.{_≡_};
 ghost use Prim.Native.Nat.{_+_, _*_, _≤_};
 ghost use lib.ListN.{length};
-ghost use Rattle.plan.specs.Drafts.{tasksSaid, pagesSaid};
+ghost use Rattle.plan.specs.Flat.{tasksSaid, pagesSaid};
 
 /// How many tasks, and pages, parts say.
 #[derive(Clone, Copy)]

@@ -14,7 +14,8 @@ ghost use lib.ListN.{length, take, drop};
 ghost use Rattle.std.specs.shelf.Lists.{joined, between};
 ghost use Rattle.bytes.specs.Bytes.{put};
 ghost use Rattle.plan.specs.Layout.{header};
-ghost use Rattle.plan.specs.Drafts.{windowBytes, channelBytes, taskBytes, headBytes, partsBytes, tasksSaid};
+ghost use Rattle.plan.specs.Drafts.{windowBytes, channelBytes, taskBytes, headBytes, partsBytes};
+ghost use Rattle.plan.specs.Flat.{tasksSaid};
 
 /// Writes what a plan begins with.
 pub(crate) fn write_header(out: &mut [u8], h: Header)

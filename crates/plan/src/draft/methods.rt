@@ -11,10 +11,13 @@ use crate::write::write_windows;
 use bytes::copy;
 ghost use mathlib.Core.Path.{_≡_};
 ghost use Prim.Native.Nat.{_≤_};
-ghost use lib.ListN.{length};
+ghost use lib.ListN.{length, take};
+ghost use Rattle.std.specs.Vec.{made};
+ghost use Rattle.codec.specs.Codec.{got};
 ghost use Rattle.std.specs.Options.{Cases as BySome};
 ghost use Rattle.bytes.specs.Bytes.{put};
-ghost use Rattle.plan.specs.Layout.{writePlan};
+ghost use Rattle.plan.specs.Layout.{readPlan, writePlan};
+ghost use Rattle.plan.specs.Bounds.{InBounds};
 ghost use Rattle.plan.specs.Drafts.{draftImage, Counted, Wrote};
 
 impl Draft<'_> {
@@ -67,6 +70,7 @@ impl Draft<'_> {
     /// draft does not add up, nothing is written.
     pub fn write(&self, out: &mut [u8]) -> Result<usize, Unwritten>
         ensures value { λ r. ⌜ Wrote (now (self .entry)) (now (out .entry)) (now (out .exit)) r ⌝ }
+        ensures read { λ r. ⌜ (InBounds (draftImage (now (self .entry))) → made r (λ n. readPlan (take n (now (out .exit))) ≡ got (draftImage (now (self .entry))) n)) ⌝ }
     {
         let Some(n) = self.size() else {
             return Err(Unwritten::Counts);

@@ -1,7 +1,7 @@
 use mathlib.Core.Path.{_≡_}
 use Prim.Native.Nat.{_+_, _*_, _≤_}
 use lib.ListN.{drop}
-use Rattle.plan.specs.Drafts.{tasksSaid, pagesSaid}
+use Rattle.plan.specs.Flat.{tasksSaid, pagesSaid}
 use Rattle.plan.proofs.sums.added_up.Given as given
 
 -- The sums so far, and what is left.

@@ -2,7 +2,8 @@ use mathlib.Core.Path.{_≡_}
 use Prim.Native.Nat.{_+_, _*_, _-_, _≤_}
 use lib.ListN.{length, drop}
 use Rattle.bytes.specs.Bytes.{put}
-use Rattle.plan.specs.Drafts.{partsBytes, tasksSaid}
+use Rattle.plan.specs.Drafts.{partsBytes}
+use Rattle.plan.specs.Flat.{tasksSaid}
 use Rattle.plan.proofs.write.write_parts.Given as given
 
 -- What is left ends as the whole does, and there is room and there are tasks for it.

@@ -2,7 +2,7 @@ use mathlib.Core.Path.{_≡_, _∙_, sym}
 use Prim.Native.Nat.{_*_}
 use native.Mathlib.Omega.{arith}
 use lib.ListN.{length}
-use Rattle.plan.specs.Drafts.{tasksSaid, pagesSaid}
+use Rattle.plan.specs.Flat.{tasksSaid, pagesSaid}
 use Rattle.plan.proofs.Drafted.{draft-size}
 use Rattle.plan.proofs.draft.Draft.size.Needs as need
 
