@@ -4,3 +4,6 @@ pub mod Walk
 pub mod Opened
 pub mod Exact
 pub mod Arrivals
+pub mod Writing
+pub mod Drafted
+pub mod Flattened

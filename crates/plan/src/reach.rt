@@ -2,7 +2,7 @@
 
 /// Pages of memory, all told, and the place behind the parts that told them.
 #[derive(Clone, Copy)]
-pub struct Reach {
+pub(crate) struct Reach {
     pub pages: u32,
     pub end: usize,
 }
