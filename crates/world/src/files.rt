@@ -21,7 +21,7 @@ pub struct Outcome {
     pub refused: Option<Refusal>,
 }
 
-/// Runs so many ticks in which nothing comes from outside.
+/// Runs so many ticks in which nothing comes from outside, as rows of one byte would say it.
 pub fn run_ticks(heap: Global, view: &View<'_>, ticks: u64) -> Result<Outcome, AllocError> {
     let windows = windows_of(heap, view)?;
     let pages = pages_of(heap, view)?;
@@ -38,14 +38,14 @@ pub fn run_ticks(heap: Global, view: &View<'_>, ticks: u64) -> Result<Outcome, A
         memory.as_mut_slice(),
         channels.as_mut_slice(),
     );
-    for _ in 0..ticks {
+    for tick in 0..ticks {
         let (next, result) = world.tick(&[]);
         world = next;
         match result {
             Ok(None) => {}
             Ok(Some(b)) => shown.push(b)?,
             Err(_) => {
-                refused = Some(Refusal::Row(0));
+                refused = Some(Refusal::Row(tick as usize));
                 break;
             }
         }

@@ -103,15 +103,30 @@ fn with_ticks(rt: &LibcRuntime, plan: &[u8], ticks: u64) -> Result<bool, AnyErro
     }
 }
 
+/// Wrong use: says what is wrong, and what to write.
+fn wrong(rt: &LibcRuntime, what: &str, word: &str) -> Result<bool, AnyError> {
+    eprintln!(rt, "world: {what}: {word}")?;
+    eprintln!(rt, "{USAGE}")?;
+    Ok(false)
+}
+
 fn on_rows(rt: &LibcRuntime, plan: &str, rows: &str) -> Result<bool, AnyError> {
-    let bytes = fs::read(rt, plan)?;
-    let row_bytes = fs::read(rt, rows)?;
+    let Ok(bytes) = fs::read(rt, plan) else {
+        return wrong(rt, "this plan cannot be read", plan);
+    };
+    let Ok(row_bytes) = fs::read(rt, rows) else {
+        return wrong(rt, "these rows cannot be read", rows);
+    };
     with_rows(rt, bytes.as_slice(), row_bytes.as_slice())
 }
 
 fn on_ticks(rt: &LibcRuntime, plan: &str, number: &str) -> Result<bool, AnyError> {
-    let ticks = number.parse::<u64>()?;
-    let bytes = fs::read(rt, plan)?;
+    let Ok(ticks) = number.parse::<u64>() else {
+        return wrong(rt, "behind --ticks stands a number of ticks, not", number);
+    };
+    let Ok(bytes) = fs::read(rt, plan) else {
+        return wrong(rt, "this plan cannot be read", plan);
+    };
     with_ticks(rt, bytes.as_slice(), ticks)
 }
 
@@ -125,7 +140,10 @@ fn start(rt: &LibcRuntime, words: &[String]) -> Result<bool, AnyError> {
         }
         [a, b] => on_rows(rt, a.as_str(), b.as_str()),
         [a, b, c] if b.as_str() == "--ticks" => on_ticks(rt, a.as_str(), c.as_str()),
-        _ => Err(USAGE.into()),
+        _ => {
+            eprintln!(rt, "{USAGE}")?;
+            Ok(false)
+        }
     }
 }
 
