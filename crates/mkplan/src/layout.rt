@@ -4,7 +4,7 @@ ghost use Prim.Native.Nat.{_+_, _*_, _≤_};
 ghost use lib.ListN.{length};
 ghost use Rattle.std.specs.Of.Vec.{vec-len, vec-items};
 ghost use Rattle.std.specs.Vec.{made};
-ghost use Rattle.mkplan.specs.Sizes.{room};
+ghost use Rattle.mkplan.specs.Sizes.{parts, room};
 use crate::memories::Memory;
 use model::plan::Channel;
 use model::plan::Task;
@@ -87,9 +87,12 @@ fn put_partitions(
     out: &mut Vec<u8>,
     partitions: &[Partition],
     memories: &[Memory],
-) -> Result<(), AllocError> {
-    for (partition, memory) in partitions.iter().zip(memories) {
-        put_partition(out, memory.pages, partition.tasks.as_slice())?;
+) -> Result<(), AllocError>
+    requires each { ⌜ length (now partitions) ≡ length (now memories) ⌝ }
+    ensures len { λ r. ⌜ made r (λ _. vec-len (now (out .exit)) ≡ vec-len (now (out .entry)) + parts (now (partitions .entry))) ⌝ }
+{
+    for (i, partition) in partitions.iter().enumerate() {
+        put_partition(out, memories[i].pages, partition.tasks.as_slice())?;
     }
     Ok(())
 }
@@ -104,7 +107,10 @@ fn put_memories(out: &mut Vec<u8>, memories: &[Memory]) -> Result<(), AllocError
 }
 
 /// The plan's bytes: its head, windows, channels, partitions with their tasks, and memories.
-pub fn plan_bytes(heap: Global, plan: &Plan, memories: &[Memory]) -> Result<Vec<u8>, AllocError> {
+pub fn plan_bytes(heap: Global, plan: &Plan, memories: &[Memory]) -> Result<Vec<u8>, AllocError>
+    requires each { ⌜ vec-len (now plan .partitions) ≡ length (now memories) ⌝ }
+    ensures len { λ r. ⌜ made r (λ v. vec-len v ≡ 10 + 5 * vec-len (now (plan .entry) .windows) + 5 * vec-len (now (plan .entry) .channels) + parts (vec-items (now (plan .entry) .partitions)) + room (now (memories .entry))) ⌝ }
+{
     let mut out = Vec::new(heap);
     put_head(&mut out, plan)?;
     put_windows(&mut out, plan.windows.as_slice())?;

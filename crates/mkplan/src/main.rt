@@ -1,4 +1,9 @@
 //! `mkplan TEXT PLAN` makes a plan's bytes from its text. docs/PLAN-TEXT.md says what the text is.
+ghost use mathlib.Core.Path.{_≡_};
+ghost use lib.ListN.{length};
+ghost use Rattle.std.specs.Of.Vec.{vec-len};
+ghost use Rattle.std.specs.Vec.{made};
+
 mod layout;
 mod memories;
 mod troubles;
@@ -45,11 +50,9 @@ fn load(rt: &LibcRuntime, text: &str, partition: &Partition) -> Result<Memory, F
 }
 
 /// The memories of the partitions, in their order.
-fn load_all(
-    rt: &LibcRuntime,
-    text: &str,
-    partitions: &[Partition],
-) -> Result<Vec<Memory>, Trouble> {
+fn load_all(rt: &LibcRuntime, text: &str, partitions: &[Partition]) -> Result<Vec<Memory>, Trouble>
+    ensures each { λ r. ⌜ made r (λ v. vec-len v ≡ length (now (partitions .entry))) ⌝ }
+{
     let mut all = Vec::new(rt.alloc());
     for partition in partitions {
         match load(rt, text, partition) {
