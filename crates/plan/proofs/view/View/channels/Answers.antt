@@ -1,0 +1,8 @@
+use Rattle.plan.proofs.Opened.{opened, many-channels}
+use Rattle.plan.proofs.view.View.channels.Needs as need
+
+pub returns : need.returns
+returns c =
+    let xs = c .args .self .now .bytes .now in
+    let h = c .header .result in
+    record { value = many-channels xs h (opened xs (c .args .self .now .sound) h (c .header .ensures .value)) }

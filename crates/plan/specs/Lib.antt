@@ -1,0 +1,11 @@
+pub mod Refusals
+pub mod Layout
+pub mod Bounds
+pub mod Flat
+pub mod Promise
+pub mod Ends
+pub mod Taken
+pub mod Views
+pub mod Rows
+pub mod RowViews
+pub mod Drafts
