@@ -1,100 +1,48 @@
-//! A plan as bytes, the low byte of each number first.
+//! A plan as bytes, by the writer of the library `plan`.
 ghost use mathlib.Core.Path.{_≡_};
-ghost use Prim.Native.Nat.{_+_, _*_, _≤_};
+ghost use Prim.Native.Nat.{_+_};
 ghost use lib.ListN.{length};
-ghost use Rattle.std.specs.Of.Vec.{vec-len, vec-items};
+ghost use Rattle.std.specs.Of.Vec.{vec-len};
 ghost use Rattle.std.specs.Vec.{made};
-ghost use Rattle.mkplan.specs.Sizes.{parts, room};
+ghost use Rattle.mkplan.specs.Sizes.{room};
 use crate::memories::Memory;
-use model::plan::Channel;
+use crate::troubles::Trouble;
+use crate::troubles::TroubleFromAlloc;
+use crate::troubles::TroubleFromRefused;
 use model::plan::Task;
-use model::plan::Window;
+use plan::check::check;
+use plan::draft::Draft;
+use plan::head::PartHead;
 use plantext::Partition;
 use plantext::Plan;
 use std::alloc::AllocError;
 use std::alloc::Global;
 
-fn put_window(out: &mut Vec<u8>, window: Window) -> Result<(), AllocError>
-    ensures len { λ r. ⌜ made r (λ _. vec-len (now (out .exit)) ≡ vec-len (now (out .entry)) + 5) ⌝ }
-{
-    out.push(window.partition)?;
-    out.extend_from_slice(&window.ticks.to_le_bytes())?;
-    Ok(())
-}
-
-fn put_channel(out: &mut Vec<u8>, channel: Channel) -> Result<(), AllocError>
-    ensures len { λ r. ⌜ made r (λ _. vec-len (now (out .exit)) ≡ vec-len (now (out .entry)) + 5) ⌝ }
-{
-    out.push(channel.from)?;
-    out.push(channel.to)?;
-    out.extend_from_slice(&channel.bytes.to_le_bytes())?;
-    out.push(channel.places)?;
-    Ok(())
-}
-
-fn put_task(out: &mut Vec<u8>, task: Task) -> Result<(), AllocError>
-    ensures len { λ r. ⌜ made r (λ _. vec-len (now (out .exit)) ≡ vec-len (now (out .entry)) + 10) ⌝ }
-{
-    out.push(task.priority)?;
-    out.extend_from_slice(&task.period.to_le_bytes())?;
-    out.extend_from_slice(&task.deadline.to_le_bytes())?;
-    out.push(task.lates)?;
-    Ok(())
-}
-
-fn put_partition(out: &mut Vec<u8>, pages: u16, tasks: &[Task]) -> Result<(), AllocError>
-    requires few { ⌜ length (now tasks) ≤ 16 ⌝ }
-    ensures len { λ r. ⌜ made r (λ _. vec-len (now (out .exit)) ≡ vec-len (now (out .entry)) + 3 + 10 * length (now (tasks .entry))) ⌝ }
-{
-    out.extend_from_slice(&pages.to_le_bytes())?;
-    out.push(tasks.len() as u8)?;
-    for task in tasks {
-        put_task(out, *task)?;
-    }
-    Ok(())
-}
-
-fn put_head(out: &mut Vec<u8>, plan: &Plan) -> Result<(), AllocError>
-    ensures len { λ r. ⌜ made r (λ _. vec-len (now (out .exit)) ≡ vec-len (now (out .entry)) + 10) ⌝ }
-{
-    out.extend_from_slice(b"TIME")?;
-    out.extend_from_slice(&plan.system.to_le_bytes())?;
-    out.push(plan.partitions.len() as u8)?;
-    out.extend_from_slice(&(plan.windows.len() as u16).to_le_bytes())?;
-    out.push(plan.channels.len() as u8)?;
-    Ok(())
-}
-
-fn put_windows(out: &mut Vec<u8>, windows: &[Window]) -> Result<(), AllocError>
-    ensures len { λ r. ⌜ made r (λ _. vec-len (now (out .exit)) ≡ vec-len (now (out .entry)) + 5 * length (now (windows .entry))) ⌝ }
-{
-    for window in windows {
-        put_window(out, *window)?;
-    }
-    Ok(())
-}
-
-fn put_channels(out: &mut Vec<u8>, channels: &[Channel]) -> Result<(), AllocError>
-    ensures len { λ r. ⌜ made r (λ _. vec-len (now (out .exit)) ≡ vec-len (now (out .entry)) + 5 * length (now (channels .entry))) ⌝ }
-{
-    for channel in channels {
-        put_channel(out, *channel)?;
-    }
-    Ok(())
-}
-
-fn put_partitions(
-    out: &mut Vec<u8>,
+/// The pages of each partition, and how many tasks it has.
+fn heads(
+    heap: Global,
     partitions: &[Partition],
     memories: &[Memory],
-) -> Result<(), AllocError>
+) -> Result<Vec<PartHead>, AllocError>
     requires each { ⌜ length (now partitions) ≡ length (now memories) ⌝ }
-    ensures len { λ r. ⌜ made r (λ _. vec-len (now (out .exit)) ≡ vec-len (now (out .entry)) + parts (now (partitions .entry))) ⌝ }
+    ensures len { λ r. ⌜ made r (λ v. vec-len v ≡ length (now (partitions .entry))) ⌝ }
 {
+    let mut all = Vec::new(heap);
     for (i, partition) in partitions.iter().enumerate() {
-        put_partition(out, memories[i].pages, partition.tasks.as_slice())?;
+        let pages = memories[i].pages;
+        let tasks = partition.tasks.len() as u8;
+        all.push(PartHead { pages, tasks })?;
     }
-    Ok(())
+    Ok(all)
+}
+
+/// The tasks of all partitions, in their order.
+fn tasks_of(heap: Global, partitions: &[Partition]) -> Result<Vec<Task>, AllocError> {
+    let mut all = Vec::new(heap);
+    for partition in partitions {
+        all.extend_from_slice(partition.tasks.as_slice())?;
+    }
+    Ok(all)
 }
 
 fn put_memories(out: &mut Vec<u8>, memories: &[Memory]) -> Result<(), AllocError>
@@ -106,16 +54,37 @@ fn put_memories(out: &mut Vec<u8>, memories: &[Memory]) -> Result<(), AllocError
     Ok(())
 }
 
-/// The plan's bytes: its head, windows, channels, partitions with their tasks, and memories.
-pub fn plan_bytes(heap: Global, plan: &Plan, memories: &[Memory]) -> Result<Vec<u8>, AllocError>
-    requires each { ⌜ vec-len (now plan .partitions) ≡ length (now memories) ⌝ }
-    ensures len { λ r. ⌜ made r (λ v. vec-len v ≡ 10 + 5 * vec-len (now (plan .entry) .windows) + 5 * vec-len (now (plan .entry) .channels) + parts (vec-items (now (plan .entry) .partitions)) + room (now (memories .entry))) ⌝ }
-{
+/// The bytes of a draft, which are a plan's.
+fn written(heap: Global, draft: &Draft) -> Result<Vec<u8>, Trouble> {
+    let Some(size) = draft.size() else {
+        return Err(Trouble::NoPlan);
+    };
     let mut out = Vec::new(heap);
-    put_head(&mut out, plan)?;
-    put_windows(&mut out, plan.windows.as_slice())?;
-    put_channels(&mut out, plan.channels.as_slice())?;
-    put_partitions(&mut out, plan.partitions.as_slice(), memories)?;
-    put_memories(&mut out, memories)?;
+    out.resize(size, 0)?;
+    if draft.write(out.as_mut_slice()).is_err() {
+        return Err(Trouble::NoPlan);
+    }
+    if check(out.as_slice()).is_err() {
+        return Err(Trouble::NoPlan);
+    }
     Ok(out)
+}
+
+/// The plan's bytes.
+pub fn plan_bytes(heap: Global, plan: &Plan, memories: &[Memory]) -> Result<Vec<u8>, Trouble>
+    requires each { ⌜ vec-len (now plan .partitions) ≡ length (now memories) ⌝ }
+{
+    let parts = heads(heap, plan.partitions.as_slice(), memories)?;
+    let tasks = tasks_of(heap, plan.partitions.as_slice())?;
+    let mut all = Vec::new(heap);
+    put_memories(&mut all, memories)?;
+    let draft = Draft {
+        system: plan.system,
+        windows: plan.windows.as_slice(),
+        channels: plan.channels.as_slice(),
+        parts: parts.as_slice(),
+        tasks: tasks.as_slice(),
+        memories: all.as_slice(),
+    };
+    written(heap, &draft)
 }

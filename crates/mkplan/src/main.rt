@@ -82,7 +82,7 @@ fn made(rt: &LibcRuntime, text: &str) -> Result<Vec<u8>, Trouble> {
     let memories = load_all(rt, text, plan.partitions.as_slice())?;
     match wrong {
         Some(wrong) => Err(Trouble::InText(String::from_str(heap, text)?, wrong)),
-        None => Ok(layout::plan_bytes(heap, &plan, memories.as_slice())?),
+        None => layout::plan_bytes(heap, &plan, memories.as_slice()),
     }
 }
 

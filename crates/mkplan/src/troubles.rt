@@ -12,6 +12,7 @@ pub enum Trouble {
     NotRead(String),
     NotWritten(String),
     InText(String, Wrong),
+    NoPlan,
     Heap,
 }
 
@@ -34,6 +35,7 @@ pub impl fmt::Display for Trouble as TroubleDisplay {
             Trouble::NotRead(text) => write!(f, "{text}: cannot be read"),
             Trouble::NotWritten(plan) => write!(f, "{plan}: cannot be written"),
             Trouble::InText(text, wrong) => write!(f, "{text}:{wrong}"),
+            Trouble::NoPlan => write!(f, "mkplan: the bytes are no plan; nothing was written"),
             Trouble::Heap => write!(f, "mkplan: no memory is left; run it where there is more"),
         }
     }
