@@ -2,7 +2,9 @@
 ghost use mathlib.Core.Path.{_≡_};
 ghost use Prim.Native.Nat.{_+_};
 ghost use lib.ListN.{length};
-ghost use Rattle.std.specs.Of.Vec.{vec-len};
+ghost use mathlib.Core.Bool.{true};
+ghost use Rattle.plan.specs.Taken.{accepts};
+ghost use Rattle.std.specs.Of.Vec.{vec-len, vec-items};
 ghost use Rattle.std.specs.Vec.{made};
 ghost use Rattle.mkplan.specs.Sizes.{room};
 use crate::memories::Memory;
@@ -55,7 +57,9 @@ fn put_memories(out: &mut Vec<u8>, memories: &[Memory]) -> Result<(), AllocError
 }
 
 /// The bytes of a draft, which are a plan's.
-fn written(heap: Global, draft: &Draft) -> Result<Vec<u8>, Trouble> {
+fn written(heap: Global, draft: &Draft) -> Result<Vec<u8>, Trouble>
+    ensures plan { λ r. ⌜ made r (λ v. accepts (vec-items v) ≡ true) ⌝ }
+{
     let Some(size) = draft.size() else {
         return Err(Trouble::NoPlan);
     };
@@ -73,6 +77,7 @@ fn written(heap: Global, draft: &Draft) -> Result<Vec<u8>, Trouble> {
 /// The plan's bytes.
 pub fn plan_bytes(heap: Global, plan: &Plan, memories: &[Memory]) -> Result<Vec<u8>, Trouble>
     requires each { ⌜ vec-len (now plan .partitions) ≡ length (now memories) ⌝ }
+    ensures plan { λ r. ⌜ made r (λ v. accepts (vec-items v) ≡ true) ⌝ }
 {
     let parts = heads(heap, plan.partitions.as_slice(), memories)?;
     let tasks = tasks_of(heap, plan.partitions.as_slice())?;
