@@ -8,7 +8,7 @@ program=${1:-$here/../../target/bin/world}
 mkplan=${2:-$here/../../target/bin/mkplan}
 work=$(mktemp -d)
 trap 'rm -rf "$work"' EXIT
-"$mkplan" "$here/hoist.plan.txt" "$work/hoist.plan"
+"$mkplan" "$here/hoist.plan.txt" "$work/hoist.plan" >&2
 "$program" "$work/hoist.plan" "$here/hoist.rows" | tee "$work/shown"
 if cmp -s "$work/shown" "$here/hoist.expected"; then
     echo "$(wc -l <"$work/shown") bytes shown, as in hoist.expected" >&2

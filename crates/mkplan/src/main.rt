@@ -112,6 +112,9 @@ fn run(rt: &LibcRuntime) -> Result<(), Trouble> {
     }
     let bytes = made(rt, words[1].as_str())?;
     if kept(rt, words[2].as_str(), bytes.as_slice()) {
+        let plan = words[2].as_str();
+        let many = bytes.len();
+        let _ = println!(rt, "{plan}: {many} bytes, written and read back");
         return Ok(());
     }
     Err(Trouble::NotWritten(String::from_str(heap, words[2].as_str())?))
