@@ -6,7 +6,7 @@ use Rattle.decode.proofs.decode.Goals as goal
 pub returns : goal.returns
 returns c =
     record {
-      value = c.by-opcode.ensures.value;
-      encodes = λ i e. encodes c.args.word c.ranges.word.fits i (sym c.by-opcode.ensures.value ∙ e);
-      only = λ i e. c.by-opcode.ensures.value ∙ only c.args.word i e;
+      value = c.by_opcode.ensures.value;
+      encodes = λ i e. encodes c.args.word c.ranges.word.fits i (sym c.by_opcode.ensures.value ∙ e);
+      only = λ i e. c.by_opcode.ensures.value ∙ only c.args.word i e;
     }

@@ -7,6 +7,6 @@ pub returns : goal.returns
 returns c =
     record {
       after =
-          put_is c.args.b.now c.copy-from-slice.new.self c.args.k _ (omega (arith, ap length c.copy-from-slice.ensures.after))
-          ∙ ap (put c.args.b.now c.args.k) c.copy-from-slice.ensures.after;
+          put_is c.args.b.now c.copy_from_slice.new.self c.args.k _ (omega (arith, ap length c.copy_from_slice.ensures.after))
+          ∙ ap (put c.args.b.now c.args.k) c.copy_from_slice.ensures.after;
     }

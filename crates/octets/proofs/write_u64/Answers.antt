@@ -11,8 +11,8 @@ returns c =
     let v = c.args.v in
     record {
       after =
-          c.write-u32-2.ensures.after
-          ∙ ap (λ xs. put xs (k + 4) (bytes_of 4 (v / 4294967296))) c.write-u32.ensures.after
+          c.write_u32-2.ensures.after
+          ∙ ap (λ xs. put xs (k + 4) (bytes_of 4 (v / 4294967296))) c.write_u32.ensures.after
           ∙ put-behind b (bytes_of 4 (v % 4294967296)) (bytes_of 4 (v / 4294967296)) k (k + 4) (omega (arith, length-bytes_of 4 (v % 4294967296))) (omega (arith, length-bytes_of 4 (v / 4294967296)))
           ∙ ap (put b k) (sym (bytes_of_8 v));
     }
