@@ -13,4 +13,4 @@ returns-then-pc-ne0 c =
     }
 
 pub returns : goal.returns
-returns c = record { value = fetch_word c.args.memory.now c.args.pc c.read-u32.result c.if-pc-ne0.false c.if-k-memory.false c.read-u32.ensures.value }
+returns c = record { value = fetch_word c.args.memory.now c.args.pc c.read_u32.result c.if-pc-ne0.false c.if-k-memory.false c.read_u32.ensures.value }

@@ -31,7 +31,7 @@ returns-in-Sets c =
     sym
     (c.step.ensures.value
     ∙ ap (λ w. effect_fetched (core_of c.core-core.result) w (length m))
-    (c.fetch_word.ensures.value ∙ ap (λ p. cond (inside 4 p (length m)) (Some (at 4 m p)) None) c.pc.ensures.value)
+    (c.fetch-word.ensures.value ∙ ap (λ p. cond (inside 4 p (length m)) (Some (at 4 m p)) None) c.pc.ensures.value)
     ∙ ap (λ z. effect_at z m) c.core-core.ensures.value) in
     let comes : effect_at k m ≡ Sets c.in-Sets.rd c.in-Sets.value c.in-Sets.next = whole ∙ c.in-Sets.is in
     let core : core_of c.go.new.self ≡ going (written k c.in-Sets.rd.number c.in-Sets.value) c.in-Sets.next = c.go.ensures.after ∙ ap (λ z. going z c.in-Sets.next) (c.set.ensures.after ∙ ap (λ z. written z c.in-Sets.rd.number c.in-Sets.value) c.core-core.ensures.value) in
@@ -39,8 +39,8 @@ returns-in-Sets c =
       value =
           did_quiet step t x _ m (heard_of x) i (goes_on (going (written k c.in-Sets.rd.number c.in-Sets.value) c.in-Sets.next)) cs
           (λ s. ap (λ (e : Effect). acted q t sn (part_of x m s) i (performed k m e)) comes)
-          (c.goes-on.ensures.runs ∙ ap (λ z. update (runs_of x) i (goes_on z)) core) c.goes-on.ensures.heard;
-      tasks = c.goes-on.ensures.tasks;
+          (c.goes_on.ensures.runs ∙ ap (λ z. update (runs_of x) i (goes_on z)) core) c.goes_on.ensures.heard;
+      tasks = c.goes_on.ensures.tasks;
     }
 
 pub returns-in-Goes : goal.returns-in-Goes
@@ -59,7 +59,7 @@ returns-in-Goes c =
     sym
     (c.step.ensures.value
     ∙ ap (λ w. effect_fetched (core_of c.core-core.result) w (length m))
-    (c.fetch_word.ensures.value ∙ ap (λ p. cond (inside 4 p (length m)) (Some (at 4 m p)) None) c.pc.ensures.value)
+    (c.fetch-word.ensures.value ∙ ap (λ p. cond (inside 4 p (length m)) (Some (at 4 m p)) None) c.pc.ensures.value)
     ∙ ap (λ z. effect_at z m) c.core-core.ensures.value) in
     let comes : effect_at k m ≡ Goes c.in-Goes.next = whole ∙ c.in-Goes.is in
     let core : core_of c.go-in-Goes.new.self ≡ going k c.in-Goes.next = c.go-in-Goes.ensures.after ∙ ap (λ z. going z c.in-Goes.next) c.core-core.ensures.value in
@@ -67,8 +67,8 @@ returns-in-Goes c =
       value =
           did_quiet step t x _ m (heard_of x) i (goes_on (going k c.in-Goes.next)) cs
           (λ s. ap (λ (e : Effect). acted q t sn (part_of x m s) i (performed k m e)) comes)
-          (c.goes-on-in-Goes.ensures.runs ∙ ap (λ z. update (runs_of x) i (goes_on z)) core) c.goes-on-in-Goes.ensures.heard;
-      tasks = c.goes-on-in-Goes.ensures.tasks;
+          (c.goes_on-in-Goes.ensures.runs ∙ ap (λ z. update (runs_of x) i (goes_on z)) core) c.goes_on-in-Goes.ensures.heard;
+      tasks = c.goes_on-in-Goes.ensures.tasks;
     }
 
 pub returns-in-Loads : goal.returns-in-Loads
@@ -87,18 +87,18 @@ returns-in-Loads c =
     sym
     (c.step.ensures.value
     ∙ ap (λ w. effect_fetched (core_of c.core-core.result) w (length m))
-    (c.fetch_word.ensures.value ∙ ap (λ p. cond (inside 4 p (length m)) (Some (at 4 m p)) None) c.pc.ensures.value)
+    (c.fetch-word.ensures.value ∙ ap (λ p. cond (inside 4 p (length m)) (Some (at 4 m p)) None) c.pc.ensures.value)
     ∙ ap (λ z. effect_at z m) c.core-core.ensures.value) in
     let comes : effect_at k m ≡ Loads c.in-Loads.rd c.in-Loads.kind c.in-Loads.address = whole ∙ c.in-Loads.is in
-    let core : core_of c.go-on.new.self ≡ going_on (written k c.in-Loads.rd.number (extended c.in-Loads.kind (at (load_bytes c.in-Loads.kind) m c.in-Loads.address))) =
-    c.go-on.ensures.after
+    let core : core_of c.go_on.new.self ≡ going_on (written k c.in-Loads.rd.number (extended c.in-Loads.kind (at (load_bytes c.in-Loads.kind) m c.in-Loads.address))) =
+    c.go_on.ensures.after
     ∙ ap going_on (c.set-in-Loads.ensures.after ∙ (λ j. written (c.core-core.ensures.value j) c.in-Loads.rd.number (c.load.ensures.value j))) in
     record {
       value =
           did_quiet step t x _ m (heard_of x) i (goes_on (going_on (written k c.in-Loads.rd.number (extended c.in-Loads.kind (at (load_bytes c.in-Loads.kind) m c.in-Loads.address))))) cs
           (λ s. ap (λ (e : Effect). acted q t sn (part_of x m s) i (performed k m e)) comes)
-          (c.goes-on-in-Loads.ensures.runs ∙ ap (λ z. update (runs_of x) i (goes_on z)) core) c.goes-on-in-Loads.ensures.heard;
-      tasks = c.goes-on-in-Loads.ensures.tasks;
+          (c.goes_on-in-Loads.ensures.runs ∙ ap (λ z. update (runs_of x) i (goes_on z)) core) c.goes_on-in-Loads.ensures.heard;
+      tasks = c.goes_on-in-Loads.ensures.tasks;
     }
 
 pub returns-in-Stores : goal.returns-in-Stores
@@ -117,17 +117,17 @@ returns-in-Stores c =
     sym
     (c.step.ensures.value
     ∙ ap (λ w. effect_fetched (core_of c.core-core.result) w (length m))
-    (c.fetch_word.ensures.value ∙ ap (λ p. cond (inside 4 p (length m)) (Some (at 4 m p)) None) c.pc.ensures.value)
+    (c.fetch-word.ensures.value ∙ ap (λ p. cond (inside 4 p (length m)) (Some (at 4 m p)) None) c.pc.ensures.value)
     ∙ ap (λ z. effect_at z m) c.core-core.ensures.value) in
     let comes : effect_at k m ≡ Stores c.in-Stores.kind c.in-Stores.address c.in-Stores.value = whole ∙ c.in-Stores.is in
-    let core : core_of c.go-on-in-Stores.new.self ≡ going_on k = c.go-on-in-Stores.ensures.after ∙ ap going_on c.core-core.ensures.value in
+    let core : core_of c.go_on-in-Stores.new.self ≡ going_on k = c.go_on-in-Stores.ensures.after ∙ ap going_on c.core-core.ensures.value in
     record {
       value =
           did_quiet step t x _ c.store.new.memory (heard_of x) i (goes_on (going_on k)) cs
           (λ s. ap (λ (e : Effect). acted q t sn (part_of x m s) i (performed k m e)) comes
           ∙ ap (λ mm. record { part = changing (record { memory = mm; tasks = runs_of x; heard = heard_of x; shown = s }) i (goes_on (going_on k)); change = none }) (sym c.store.ensures.after))
-          (c.goes-on-in-Stores.ensures.runs ∙ ap (λ z. update (runs_of x) i (goes_on z)) core) c.goes-on-in-Stores.ensures.heard;
-      tasks = c.goes-on-in-Stores.ensures.tasks;
+          (c.goes_on-in-Stores.ensures.runs ∙ ap (λ z. update (runs_of x) i (goes_on z)) core) c.goes_on-in-Stores.ensures.heard;
+      tasks = c.goes_on-in-Stores.ensures.tasks;
     }
 
 pub returns-in-Calls : goal.returns-in-Calls
@@ -146,7 +146,7 @@ returns-in-Calls c =
     sym
     (c.step.ensures.value
     ∙ ap (λ w. effect_fetched (core_of c.core-core.result) w (length m))
-    (c.fetch_word.ensures.value ∙ ap (λ p. cond (inside 4 p (length m)) (Some (at 4 m p)) None) c.pc.ensures.value)
+    (c.fetch-word.ensures.value ∙ ap (λ p. cond (inside 4 p (length m)) (Some (at 4 m p)) None) c.pc.ensures.value)
     ∙ ap (λ z. effect_at z m) c.core-core.ensures.value) in
     let comes : effect_at k m ≡ Calls = whole ∙ c.in-Calls.is in
     record {
@@ -170,7 +170,7 @@ returns-in-Wrong c =
     sym
     (c.step.ensures.value
     ∙ ap (λ w. effect_fetched (core_of c.core-core.result) w (length m))
-    (c.fetch_word.ensures.value ∙ ap (λ p. cond (inside 4 p (length m)) (Some (at 4 m p)) None) c.pc.ensures.value)
+    (c.fetch-word.ensures.value ∙ ap (λ p. cond (inside 4 p (length m)) (Some (at 4 m p)) None) c.pc.ensures.value)
     ∙ ap (λ z. effect_at z m) c.core-core.ensures.value) in
     let comes : effect_at k m ≡ Wrong = whole ∙ c.in-Wrong.is in
     record {

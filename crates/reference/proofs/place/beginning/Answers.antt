@@ -7,7 +7,7 @@ loop-i-init c = omega (arith, place_none c.args.pages.now)
 
 pub loop-i-preserved : goal.loop-i-preserved
 loop-i-preserved c =
-    omega (arith, place_more c.args.pages.now c.loop-i.i (omega (arith, c.min-many.ensures)), c.loop-i.invariant, c.saturating-add-sum.ensures)
+    omega (arith, place_more c.args.pages.now c.loop-i.i (omega (arith, c.min-many.ensures)), c.loop-i.invariant, c.saturating_add-sum.ensures)
 
 pub returns : goal.returns
 returns c =

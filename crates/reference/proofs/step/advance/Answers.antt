@@ -36,9 +36,9 @@ returns c =
     record {
       value = λ s.
           ticked c.args.system c.args.time c.args.windows.now c.args.parts.now c.arrivals.new.parts _ c.args.channels.now c.args.row.now s
-          c.turn-of.new.parts _ c.turn-of.new.channels _ (Some c.in-Some.q) (c.arrivals.ensures.value _ _ _ s) c.arrivals.ensures.tasks (sym c.in-Some.is ∙ c.turn-at.ensures.value)
-          (ap (world_of c.args.time c.turn-of.new.parts _ c.turn-of.new.channels) (sym (ap (λ r. showing s c.in-Some.q (said c.args.time r)) c.in-Some-turn-of.is))
-          ∙ c.turn-of.ensures.value c.args.system s);
-      tasks = c.turn-of.ensures.tasks ∙ c.arrivals.ensures.tasks;
-      plans = c.turn-of.ensures.plans;
+          c.turn_of.new.parts _ c.turn_of.new.channels _ (Some c.in-Some.q) (c.arrivals.ensures.value _ _ _ s) c.arrivals.ensures.tasks (sym c.in-Some.is ∙ c.turn_at.ensures.value)
+          (ap (world_of c.args.time c.turn_of.new.parts _ c.turn_of.new.channels) (sym (ap (λ r. showing s c.in-Some.q (said c.args.time r)) c.in-Some-turn_of.is))
+          ∙ c.turn_of.ensures.value c.args.system s);
+      tasks = c.turn_of.ensures.tasks ∙ c.arrivals.ensures.tasks;
+      plans = c.turn_of.ensures.plans;
     }

@@ -10,7 +10,7 @@ pub returns : goal.returns
 returns c =
     record {
       value =
-          c.turn-in.ensures.value
-          ∙ ap (λ n. turn_in c.args.system c.args.windows.now (c.args.time % n)) c.round-of-round.ensures.value
+          c.turn_in.ensures.value
+          ∙ ap (λ n. turn_in c.args.system c.args.windows.now (c.args.time % n)) c.round_of-round.ensures.value
           ∙ ap (λ n. turn_in c.args.system c.args.windows.now n) (within_round c.args.time (round c.args.windows.now) c.requires);
     }

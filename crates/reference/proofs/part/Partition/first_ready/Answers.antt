@@ -28,7 +28,7 @@ loop-i-preserved-in-Some c =
 
 pub loop-i-preserved : goal.loop-i-preserved
 loop-i-preserved c =
-    absurd (omega (arith, c.loop-i.auto.i, c.len-i.ensures.value, nth-none_past _ (c.loop-i.i - 1) (sym c.get.ensures.value ∙ c.in-default.is)))
+    absurd (omega (arith, c.loop-i.auto.i, c.len-i.ensures.value, nth-none_past _ (c.loop-i.i - 1) (sym c.get.ensures.value ∙ c.in_default.is)))
 
 pub returns : goal.returns
 returns c =

@@ -11,7 +11,7 @@ unfolding tasks_of runs_of heard_of
 returns c =
     let xs = held c.args.self.now.tasks in
     record {
-      tasks = tasks_kept xs _ c.args.i c.args.run _ c.put.ensures.after c.requires.found c.goes-on.ensures.plan;
-      runs = run_changed xs _ c.args.i c.args.run _ (goes_on (core_of c.args.core)) c.put.ensures.after c.requires.found c.goes-on.ensures.value;
+      tasks = tasks_kept xs _ c.args.i c.args.run _ c.put.ensures.after c.requires.found c.goes_on.ensures.plan;
+      runs = run_changed xs _ c.args.i c.args.run _ (goes_on (core_of c.args.core)) c.put.ensures.after c.requires.found c.goes_on.ensures.value;
       heard = refl;
     }

@@ -34,10 +34,10 @@ returns-then-start-size c =
 pub returns-then-self-eq0 : goal.returns-then-self-eq0
 unfolding sight_of sents_of
 returns-then-self-eq0 c =
-    let age : c.saturating-sub.result ≡ c.args.time - (sent_of c.in-Some.letter).at = c.saturating-sub.ensures ∙ ap (λ t. c.args.time - t) c.sent.ensures.value in
+    let age : c.saturating_sub.result ≡ c.args.time - (sent_of c.in-Some.letter).at = c.saturating_sub.ensures ∙ ap (λ t. c.args.time - t) c.sent.ensures.value in
     record {
       value =
-          (λ j. record { answer = Message (age j % no) (c.len-size.ensures.value j); messages = sents_of c.args.self.now; memory = c.copy-to.ensures.after j })
+          (λ j. record { answer = Message (age j % no) (c.len-size.ensures.value j); messages = sents_of c.args.self.now; memory = c.copy_to.ensures.after j })
           ∙ collect_last _ _ (sight_of c.args.self.now) _ _ c.if-self-to.false (sent_of c.in-Some.letter) _
           (map_first sent_of (held c.args.self.now.messages) _ (sym c.get.ensures.value ∙ c.in-Some.is)) (omega (arith, c.len-size.ensures.value)) c.if-self-eq0.true;
       same = refl;
@@ -46,10 +46,10 @@ returns-then-self-eq0 c =
 pub returns : goal.returns
 unfolding sight_of sents_of
 returns c =
-    let age : c.saturating-sub.result ≡ c.args.time - (sent_of c.in-Some.letter).at = c.saturating-sub.ensures ∙ ap (λ t. c.args.time - t) c.sent.ensures.value in
+    let age : c.saturating_sub.result ≡ c.args.time - (sent_of c.in-Some.letter).at = c.saturating_sub.ensures ∙ ap (λ t. c.args.time - t) c.sent.ensures.value in
     record {
       value =
-          (λ j. record { answer = Message (age j % no) (c.len-size.ensures.value j); messages = map sent_of (c.shift.ensures.after j); memory = c.copy-to.ensures.after j })
+          (λ j. record { answer = Message (age j % no) (c.len-size.ensures.value j); messages = map sent_of (c.shift.ensures.after j); memory = c.copy_to.ensures.after j })
           ∙ collect_queued _ _ (sight_of c.args.self.now) _ _ c.if-self-to.false (sent_of c.in-Some.letter) _
           (map_first sent_of (held c.args.self.now.messages) _ (sym c.get.ensures.value ∙ c.in-Some.is)) (omega (arith, c.len-size.ensures.value)) c.if-self-eq0.false;
       same = refl;

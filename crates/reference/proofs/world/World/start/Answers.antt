@@ -8,6 +8,6 @@ pub returns : goal.returns
 unfolding plan_in
 returns c =
     record {
-      plan = λ j. record { system = c.args.system; windows = c.args.windows.now; channels = c.clear-all.ensures.plans j; tasks = c.renew-all.ensures.tasks j };
-      value = begins c.args.system c.args.windows.now c.renew-all.new.parts (memories_in c.args.pages.now c.args.memory.now) c.clear-all.new.channels c.renew-all.ensures.after c.clear-all.ensures.after;
+      plan = λ j. record { system = c.args.system; windows = c.args.windows.now; channels = c.clear_all.ensures.plans j; tasks = c.renew_all.ensures.tasks j };
+      value = begins c.args.system c.args.windows.now c.renew_all.new.parts (memories_in c.args.pages.now c.args.memory.now) c.clear_all.new.channels c.renew_all.ensures.after c.clear_all.ensures.after;
     }
