@@ -7,8 +7,8 @@ use Rattle.reference.proofs.part.Partition.better.Goals as goal
 pub returns-then-not-ready : goal.returns-then-not-ready
 returns-then-not-ready c = record { value = better_not _ _ c.args.ready c.args.best c.if-not-ready.true }
 
-pub returns-in-default : goal.returns-in-default
-returns-in-default c = record { value = better_none _ _ c.args.ready c.args.best c.if-not-ready.false c.in-default.is }
+pub returns-in_default : goal.returns-in_default
+returns-in_default c = record { value = better_none _ _ c.args.ready c.args.best c.if-not-ready.false c.in_default.is }
 
 pub returns-then-priority : goal.returns-then-priority
 returns-then-priority c =

@@ -22,7 +22,7 @@ loop-i-preserved-in-Some c =
     let next : c.loop-i.i ≡ i + 1 = omega arith in
     let here : i < length rs = omega (arith, nth_some_below _ i _ found, same_many c.args.self.now c.args.self.now refl) in
     c.better-best.ensures.value
-    ∙ ap (λ b. better ks i b c.loop-i.best) (c.is_ready_lem.ensures.value ∙ sym (ap (λ (r : Run Core). is_ready r.state) (get_or-map_some run_of (held c.args.self.now.tasks) i c.in-Some.run' (run_of c.in-Some.run') found)))
+    ∙ ap (λ b. better ks i b c.loop-i.best) (c.is_ready.ensures.value ∙ sym (ap (λ (r : Run Core). is_ready r.state) (get_or-map_some run_of (held c.args.self.now.tasks) i c.in-Some.run' (run_of c.in-Some.run') found)))
     ∙ ap (λ o. better ks i (is_ready (get_or rs i (run_of c.in-Some.run')).state) o) (c.loop-i.invariant ∙ ap (λ n. first_ready ks n (drop n rs)) next)
     ∙ sym (first_more ks rs i (run_of c.in-Some.run') here)
 

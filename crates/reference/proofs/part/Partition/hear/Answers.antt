@@ -6,10 +6,10 @@ use Rattle.reference.proofs.Letters.{none_first, some_first}
 use Rattle.reference.proofs.Looking.{first_heard_lem, none_heard}
 use Rattle.reference.proofs.part.Partition.hear.Goals as goal
 
-pub returns-in-default : goal.returns-in-default
+pub returns-in_default : goal.returns-in_default
 unfolding tasks_of runs_of heard_of
-returns-in-default c =
-    let none : held c.args.self.now.heard ≡ [] = none_first _ (sym c.get.ensures.value ∙ c.in-default.is) in
+returns-in_default c =
+    let none : held c.args.self.now.heard ≡ [] = none_first _ (sym c.get.ensures.value ∙ c.in_default.is) in
     record { value = ap Value (none_heard _ none); same = refl; heard = none ∙ sym (ap (drop 1) none) }
 
 pub returns : goal.returns

@@ -56,8 +56,8 @@ returns-after-tasks c =
       heard = c.tasks.invariant.2;
     }
 
-pub returns-in-default : goal.returns-in-default
-returns-in-default c =
+pub returns-in_default : goal.returns-in_default
+returns-in_default c =
     let ks = tasks_of c.args.self.now in
     let rs = runs_of c.args.self.now in
     record {
@@ -65,6 +65,6 @@ returns-in-default c =
       runs =
           c.tasks.invariant.1
           ∙ renewed_all (looked rv32i ks 0 c.args.time rs) rs c.tasks.i (length-looked rv32i ks c.args.time rs 0)
-          (omega (arith, same_many c.tasks.self c.args.self.now c.tasks.invariant.0, nth-none_past _ c.tasks.i (sym c.get.ensures.value ∙ c.in-default.is)));
+          (omega (arith, same_many c.tasks.self c.args.self.now c.tasks.invariant.0, nth-none_past _ c.tasks.i (sym c.get.ensures.value ∙ c.in_default.is)));
       heard = c.tasks.invariant.2;
     }

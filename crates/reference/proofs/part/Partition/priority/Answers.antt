@@ -6,9 +6,9 @@ use Rattle.model.specs.World.{no_task}
 use Rattle.reference.proofs.Nths.{get_or-map_some, get_or-map-none}
 use Rattle.reference.proofs.part.Partition.priority.Goals as goal
 
-pub returns-in-default : goal.returns-in-default
+pub returns-in_default : goal.returns-in_default
 unfolding tasks_of
-returns-in-default c = record { value = sym (ap (λ (k : Task). k.priority) (get_or-map-none task_of (held c.args.self.now.tasks) c.args.i no_task (sym c.get.ensures.value ∙ c.in-default.is))) }
+returns-in_default c = record { value = sym (ap (λ (k : Task). k.priority) (get_or-map-none task_of (held c.args.self.now.tasks) c.args.i no_task (sym c.get.ensures.value ∙ c.in_default.is))) }
 
 pub returns : goal.returns
 unfolding tasks_of

@@ -62,9 +62,9 @@ returns-after-tasks c =
       heard = c.tasks.invariant.2;
     }
 
-pub returns-in-default : goal.returns-in-default
+pub returns-in_default : goal.returns-in_default
 unfolding tasks_of runs_of
-returns-in-default c =
+returns-in_default c =
     let ks = tasks_of c.args.self.now in
     let rs = runs_of c.args.self.now in
     let most : length ks ≡ length rs = length-map (held c.args.self.now.tasks) task_of ∙ sym (length-map (held c.args.self.now.tasks) run_of) in
@@ -73,6 +73,6 @@ returns-in-default c =
       runs =
           c.tasks.invariant.1
           ∙ renewed_all (new_runs rv32i 0 ks) rs c.tasks.i (length-new_runs rv32i ks 0 ∙ most)
-          (omega (arith, same_many c.tasks.self c.args.self.now c.tasks.invariant.0, nth-none_past _ c.tasks.i (sym c.get.ensures.value ∙ c.in-default.is)));
+          (omega (arith, same_many c.tasks.self c.args.self.now c.tasks.invariant.0, nth-none_past _ c.tasks.i (sym c.get.ensures.value ∙ c.in_default.is)));
       heard = c.tasks.invariant.2;
     }

@@ -11,13 +11,13 @@ pub returns-then-self-to : goal.returns-then-self-to
 unfolding sight_of refusing
 returns-then-self-to c = record { value = collect_to _ _ (sight_of c.args.self.now) _ _ c.if-self-to.true; same = refl }
 
-pub returns-in-default : goal.returns-in-default
+pub returns-in_default : goal.returns-in_default
 unfolding sight_of sents_of refusing
-returns-in-default c =
+returns-in_default c =
     record {
       value =
           collect_none _ _ (sight_of c.args.self.now) _ _ c.if-self-to.false
-          (map-none sent_of (held c.args.self.now.messages) (sym c.get.ensures.value ∙ c.in-default.is));
+          (map-none sent_of (held c.args.self.now.messages) (sym c.get.ensures.value ∙ c.in_default.is));
       same = refl;
     }
 

@@ -3,8 +3,8 @@ use Rattle.std.proofs.lemmas.List.{length-replicate}
 use Rattle.reference.specs.Rows.{held}
 use Rattle.reference.proofs.row.Row.new.Goals as goal
 
-pub invariant-of-result : goal.invariant-of-result
-invariant-of-result g c = (zero-le, (length-replicate g.row.N c.args.filler, tt))
+pub invariant_of-result : goal.invariant_of-result
+invariant_of-result g c = record { within = zero-le; whole = length-replicate g.row.N c.args.filler }
 
 pub returns : goal.returns
 unfolding held

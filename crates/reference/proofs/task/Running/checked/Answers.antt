@@ -6,9 +6,9 @@ use Rattle.reference.proofs.Tasks.{checked_other, checked_early, checked_stops, 
 use Rattle.reference.proofs.task.Running.checked.Goals.{then-time-self-via-then-time-self, then-time-self-via-else-time-self+then-time-self-2}
 use Rattle.reference.proofs.task.Running.checked.Goals as goal
 
-pub returns-in-default : goal.returns-in-default
+pub returns-in_default : goal.returns-in_default
 unfolding run_of
-returns-in-default c = record { value = checked_other _ _ (run_of c.args.self) c.in-default.not-Ready; plan = refl }
+returns-in_default c = record { value = checked_other _ _ (run_of c.args.self) c.in_default.not-Ready; plan = refl }
 
 pub returns-then-time-self : goal.returns-then-time-self
 unfolding run_of task_of

@@ -5,9 +5,9 @@ use Rattle.reference.specs.Spare.{spare}
 use Rattle.reference.proofs.Tasks.{ready_is}
 use Rattle.reference.proofs.task.Running.goes_on.Goals as goal
 
-pub invariant-of-result : goal.invariant-of-result
+pub invariant_of-result : goal.invariant_of-result
 unfolding run_of
-invariant-of-result c = (omega (arith, c.args.self.few, ap spare (ready_is c.args.self.state c.requires)), tt)
+invariant_of-result c = record { few = omega (arith, c.args.self.few, ap spare (ready_is c.args.self.state c.requires)) }
 
 pub returns : goal.returns
 unfolding run_of task_of goes_on

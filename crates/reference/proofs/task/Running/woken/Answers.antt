@@ -6,9 +6,9 @@ use Rattle.reference.proofs.Tasks.{woken_other, woken_early, woken_now}
 use Rattle.reference.proofs.task.Running.woken.Goals.{then-time-self-via-then-time-self, then-time-self-via-else-time-self+then-time-self-2}
 use Rattle.reference.proofs.task.Running.woken.Goals as goal
 
-pub returns-in-default : goal.returns-in-default
+pub returns-in_default : goal.returns-in_default
 unfolding run_of
-returns-in-default c = record { value = woken_other rv32i _ _ _ (run_of c.args.self) c.in-default.not-Waiting; plan = refl }
+returns-in_default c = record { value = woken_other rv32i _ _ _ (run_of c.args.self) c.in_default.not-Waiting; plan = refl }
 
 pub returns-then-time-self : goal.returns-then-time-self
 unfolding run_of task_of

@@ -16,8 +16,8 @@ loop-k-init c = (omega arith, (λ s. refl), refl, refl, refl)
 pub advance-requires : goal.advance-requires
 advance-requires c = omega (arith, c.loop-k.invariant.0)
 
-pub overflow-add-clock : goal.overflow-add-clock
-overflow-add-clock c = omega (arith, c.loop-k.invariant.0)
+pub overflow_add-clock : goal.overflow_add-clock
+overflow_add-clock c = omega (arith, c.loop-k.invariant.0)
 
 pub loop-k-preserved : goal.loop-k-preserved
 unfolding plan_in
