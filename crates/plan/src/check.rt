@@ -89,8 +89,8 @@ pub(crate) fn parts_end(b: &[u8], from: usize, n: u8) -> Result<Reach, Refusal>
 
 /// Whether the memories are what is left behind the parts.
 fn memories_fit(b: &[u8], r: Reach) -> Result<(), Refusal>
-    requires end_in_bounds { r.end ≤ length b.now }
-    requires pages_bound { r.pages ≤ 65535 * 255 }
+    requires room { r.end ≤ length b.now }
+    requires bound { r.pages ≤ 65535 * 255 }
     ensures value { told (length b.now) result ≡ fits b.now r.end (4096 * r.pages) }
 {
     let left = b.len() - r.end;

@@ -105,9 +105,9 @@ fn write_part(out: &mut [u8], k: usize, p: PartHead, tasks: &[Task])
 
 /// Writes the partitions' parts, each with its tasks out of the row of all.
 pub(crate) fn write_parts(out: &mut [u8], from: usize, parts: &[PartHead], tasks: &[Task])
-    requires tasks_in_bounds { from + 3 * length parts.now + 10 * length tasks.now ≤ length out.old }
-    requires parts_value { tasks_said parts.now ≡ length tasks.now }
-    requires tasks_len_bound { length tasks.now ≤ 512 }
+    requires room { from + 3 * length parts.now + 10 * length tasks.now ≤ length out.old }
+    requires said { tasks_said parts.now ≡ length tasks.now }
+    requires few { length tasks.now ≤ 512 }
     ensures after { out.new ≡ put out.old from (parts_bytes parts.now tasks.now) }
 {
     let mut k = from;

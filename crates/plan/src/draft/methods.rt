@@ -36,7 +36,7 @@ impl Draft<'_> {
     /// Writes the plan's bytes at the front.
     fn fill(&self, out: &mut [u8])
         requires counted { Counted self.now }
-        requires self_in_bounds { length (write_plan (draft_image self.now)) ≤ length out.old }
+        requires room { length (write_plan (draft_image self.now)) ≤ length out.old }
         ensures after { out.new ≡ put out.old 0 (write_plan (draft_image self.now)) }
     {
         let windows = self.windows.len();

@@ -87,8 +87,8 @@ impl<'a> View<'a> {
 
     /// Where a partition's part lies.
     fn part(&self, h: Header, q: u8) -> Part
-        requires h_value { got h 10 ≡ header.read (bytes_of self.now) 0 }
-        requires q_lt_partitions { q < h.partitions }
+        requires header { got h 10 ≡ header.read (bytes_of self.now) 0 }
+        requires there { q < h.partitions }
         ensures before { got result.before result.at ≡ map_out pages_of ((times q partition).read (bytes_of self.now) (10 + 5 * h.windows + 5 * h.channels)) }
         ensures head { got result.head (result.at + 3) ≡ part_head.read (bytes_of self.now) result.at }
         ensures room { result.at + 3 ≤ length (bytes_of self.now) }

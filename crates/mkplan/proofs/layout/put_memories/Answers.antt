@@ -10,8 +10,8 @@ loop-memory-preserved c =
       c.loop-memory.invariant,
       room_at c.args.memories.now c.loop-memory.memory-index c.memory-item.result c.loop-memory-test.true,
       ap (λ n. n * 4096) same,
-      c.in-ok-extend-from-slice.ensures.len,
-      c.as-slice.ensures.len,
+      c.in_ok-extend_from_slice.ensures.len,
+      c.as_slice.ensures.len,
       c.memory-item.result.whole,
     )
 

@@ -14,18 +14,18 @@ loop-i-init c =
 pub loop-i-preserved : goal.loop-i-preserved
 loop-i-preserved c =
     let k = c.loop-i.k in (
-      sym (times_step c.args.h.channels c.loop-i.-i (channel c.args.h.partitions) (λ l. tt) c.args.b.now k (k + 5) c.in-ok--channel.-channel c.loop-i-test.true (sym c.in-ok--channel.ensures.value))
+      sym (times_step c.args.h.channels c.loop-i._i (channel c.args.h.partitions) (λ l. tt) c.args.b.now k (k + 5) c.in_ok-_channel._channel c.loop-i-test.true (sym c.in_ok-_channel.ensures.value))
           ∙ c.loop-i.invariant.0,
-      c.in-ok--channel.ensures.room,
+      c.in_ok-_channel.ensures.room,
     )
 
-pub returns-in-err--channel : goal.returns-in-err--channel
-returns-in-err--channel c =
-    let p = err_from_is_err_and c.from-residual.result c.from-residual.ensures.1 in
+pub returns-in_err-_channel : goal.returns-in_err-_channel
+returns-in_err-_channel c =
+    let p = err_from_is_err_and c.from_residual.result c.from_residual.ensures.1 in
     rw (p.1, p.2)
     record {
       value =
-          sym (times_stop c.args.h.channels c.loop-i.-i (channel c.args.h.partitions) (λ l. tt) c.args.b.now c.loop-i.k _ _ c.loop-i-test.true (sym c.in-err--channel.ensures.value))
+          sym (times_stop c.args.h.channels c.loop-i._i (channel c.args.h.partitions) (λ l. tt) c.args.b.now c.loop-i.k _ _ c.loop-i-test.true (sym c.in_err-_channel.ensures.value))
           ∙ c.loop-i.invariant.0;
       room = tt;
     }
@@ -34,7 +34,7 @@ pub returns : goal.returns
 returns c =
     record {
       value =
-          sym (times_done c.args.h.channels c.loop-i.-i (channel c.args.h.partitions) (λ l. tt) c.args.b.now c.loop-i.k c.loop-i-test.false)
+          sym (times_done c.args.h.channels c.loop-i._i (channel c.args.h.partitions) (λ l. tt) c.args.b.now c.loop-i.k c.loop-i-test.false)
           ∙ c.loop-i.invariant.0;
       room = c.loop-i.invariant.1;
     }

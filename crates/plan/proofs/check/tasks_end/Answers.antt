@@ -14,18 +14,18 @@ loop-i-init c =
 pub loop-i-preserved : goal.loop-i-preserved
 loop-i-preserved c =
     let k = c.loop-i.k in (
-      sym (times_step c.args.n c.loop-i.-i task (λ l. tt) c.args.b.now k (k + 10) c.in-ok--task.-task c.loop-i-test.true (sym c.in-ok--task.ensures.value))
+      sym (times_step c.args.n c.loop-i._i task (λ l. tt) c.args.b.now k (k + 10) c.in_ok-_task._task c.loop-i-test.true (sym c.in_ok-_task.ensures.value))
           ∙ c.loop-i.invariant.0,
-      c.in-ok--task.ensures.room,
+      c.in_ok-_task.ensures.room,
     )
 
-pub returns-in-err--task : goal.returns-in-err--task
-returns-in-err--task c =
-    let p = err_from_is_err_and c.from-residual.result c.from-residual.ensures.1 in
+pub returns-in_err-_task : goal.returns-in_err-_task
+returns-in_err-_task c =
+    let p = err_from_is_err_and c.from_residual.result c.from_residual.ensures.1 in
     rw (p.1, p.2)
     record {
       value =
-          sym (times_stop c.args.n c.loop-i.-i task (λ l. tt) c.args.b.now c.loop-i.k _ _ c.loop-i-test.true (sym c.in-err--task.ensures.value))
+          sym (times_stop c.args.n c.loop-i._i task (λ l. tt) c.args.b.now c.loop-i.k _ _ c.loop-i-test.true (sym c.in_err-_task.ensures.value))
           ∙ c.loop-i.invariant.0;
       room = tt;
     }
@@ -34,7 +34,7 @@ pub returns : goal.returns
 returns c =
     record {
       value =
-          sym (times_done c.args.n c.loop-i.-i task (λ l. tt) c.args.b.now c.loop-i.k c.loop-i-test.false)
+          sym (times_done c.args.n c.loop-i._i task (λ l. tt) c.args.b.now c.loop-i.k c.loop-i-test.false)
           ∙ c.loop-i.invariant.0;
       room = c.loop-i.invariant.1;
     }

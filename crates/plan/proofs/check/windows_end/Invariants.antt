@@ -7,4 +7,4 @@ use Rattle.plan.proofs.check.windows_end.Given as goal
 -- What is left ends as the whole does.
 abbrev pub invariant-loop-i : goal.invariant-loop-i
 invariant-loop-i l =
-    (seen ((times (l.h.windows - l.-i) (window l.h.system l.h.partitions)).read l.b l.k) ≡ seen ((times l.h.windows (window l.h.system l.h.partitions)).read l.b l.from)) × (l.k ≤ length l.b)
+    (seen ((times (l.h.windows - l._i) (window l.h.system l.h.partitions)).read l.b l.k) ≡ seen ((times l.h.windows (window l.h.system l.h.partitions)).read l.b l.from)) × (l.k ≤ length l.b)

@@ -5,12 +5,12 @@ use Rattle.plan.proofs.sums.added_up.Goals as goal
 pub loop-p-init : goal.loop-p-init
 loop-p-init c = (omega arith, omega arith, omega arith, omega arith)
 
-pub and-one-sum-requires : goal.and-one-sum-requires
-and-one-sum-requires c = (omega (arith, c.loop-p.invariant.2), omega (arith, c.loop-p.invariant.3))
+pub and_one-sum-requires : goal.and_one-sum-requires
+and_one-sum-requires c = record { tasks_bound = omega (arith, c.loop-p.invariant.2); pages_bound = omega (arith, c.loop-p.invariant.3) }
 
 pub loop-p-preserved : goal.loop-p-preserved
 loop-p-preserved c =
-    let r = c.and-one-sum.ensures in (
+    let r = c.and_one-sum.ensures in (
       omega (arith, c.loop-p.invariant.0, r.tasks, said_tasks c.args.parts.now c.loop-p.p-index (record { pages = 0; tasks = 0 }) c.loop-p-test.true),
       omega (arith, c.loop-p.invariant.1, r.pages, said_pages c.args.parts.now c.loop-p.p-index (record { pages = 0; tasks = 0 }) c.loop-p-test.true),
       omega (arith, c.loop-p.invariant.2, r.tasks, r.bound.0),

@@ -8,6 +8,6 @@ pub returns : goal.returns
 returns c =
     record {
       after =
-          behind c.args.out.now c.write-head.new.out c.write-tasks.new.out (head_bytes c.args.p) (flat_map task_bytes c.args.tasks.now) c.args.k (c.args.k + 3) (omega arith)
-          (omega (arith, head_bytes_lem c.args.p)) c.write-head.ensures.after c.write-tasks.ensures.after;
+          behind c.args.out.now c.write_head.new.out c.write_tasks.new.out (head_bytes c.args.p) (flat_map task_bytes c.args.tasks.now) c.args.k (c.args.k + 3) (omega arith)
+          (omega (arith, head_bytes_lem c.args.p)) c.write_head.ensures.after c.write_tasks.ensures.after;
     }

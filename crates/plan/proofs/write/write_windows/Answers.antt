@@ -6,16 +6,16 @@ use Rattle.plan.proofs.write.write_windows.Goals as goal
 pub loop-w-init : goal.loop-w-init
 loop-w-init c = (refl, omega arith)
 
-pub write-window-requires : goal.write-window-requires
-write-window-requires c = omega (arith, c.loop-w.invariant.1)
+pub write_window-requires : goal.write_window-requires
+write_window-requires c = omega (arith, c.loop-w.invariant.1)
 
-pub overflow-add-k : goal.overflow-add-k
-overflow-add-k c = omega (arith, c.loop-w.invariant.1)
+pub overflow_add-k : goal.overflow_add-k
+overflow_add-k c = omega (arith, c.loop-w.invariant.1)
 
 pub loop-w-preserved : goal.loop-w-preserved
 loop-w-preserved c = (
-  row_step window_bytes 5 window_bytes_lem c.loop-w.out c.write-window.new.out c.loop-w.k c.loop-w.w-index c.args.windows.now (record { partition = 0; ticks = 0 }) c.loop-w-test.true
-      (omega (arith, c.loop-w.invariant.1)) c.write-window.ensures.after
+  row_step window_bytes 5 window_bytes_lem c.loop-w.out c.write_window.new.out c.loop-w.k c.loop-w.w-index c.args.windows.now (record { partition = 0; ticks = 0 }) c.loop-w-test.true
+      (omega (arith, c.loop-w.invariant.1)) c.write_window.ensures.after
       ∙ c.loop-w.invariant.0,
   omega (arith, c.loop-w.invariant.1),
 )

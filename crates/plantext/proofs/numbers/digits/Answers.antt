@@ -10,11 +10,11 @@ returns-then-wanted c = record {
   value = ap capped (sym (at_wanted _ _ _ _ _ c.loop-b-test.true c.if-b-eq95.true c.if-wanted.true)) ∙ c.loop-b.invariant.1;
 }
 
-pub returns-in-err-digit : goal.returns-in-err-digit
-returns-in-err-digit c = record {
+pub returns-in_err-digit : goal.returns-in_err-digit
+returns-in_err-digit c = record {
   value =
       c.from-residual.ensures
-      ∙ ap capped (sym (at_none _ _ _ _ _ c.loop-b-test.true c.if-b-eq95.false (λ l. c.in-err-digit.ensures.value (rw c.from.ensures l))))
+      ∙ ap capped (sym (at_none _ _ _ _ _ c.loop-b-test.true c.if-b-eq95.false (λ l. c.in_err-digit.ensures.value (rw c.from.ensures l))))
       ∙ c.loop-b.invariant.1;
 }
 
@@ -26,7 +26,7 @@ loop-b-preserved-then-b-eq95 c = (
 
 pub loop-b-preserved : goal.loop-b-preserved
 loop-b-preserved c =
-    let told = c.in-ok-digit.ensures.value in
+    let told = c.in_ok-digit.ensures.value in
     let byte = c.from.ensures in
     let more : c.min-total.result ≡ min (c.loop-b.total * c.args.base + digit_value (get_or c.args.word.now c.loop-b.b-index 0)) 4294967296 =
     c.min-total.ensures ∙ (λ j. min (c.loop-b.total * c.from-in-loop-b.ensures j + (c.from-in-loop-b-2.ensures ∙ told.1 ∙ ap digit_value byte) j) 4294967296) in (

@@ -6,8 +6,8 @@ use Rattle.plan.proofs.draft.Draft.size.Goals as goal
 pub returns : goal.returns
 returns c =
     let d = c.args.self.now in
-    let et : tasks_said d.parts.now ≡ length d.tasks.now = sym c.added-up-sum.ensures.tasks ∙ c.if-sum-tasks.false in
-    let em : 4096 * pages_said d.parts.now ≡ length d.memories.now = omega (arith, c.added-up-sum.ensures.pages, c.if-sum-memories.false) in
+    let et : tasks_said d.parts.now ≡ length d.tasks.now = sym c.added_up-sum.ensures.tasks ∙ c.if-sum-tasks.false in
+    let em : 4096 * pages_said d.parts.now ≡ length d.memories.now = omega (arith, c.added_up-sum.ensures.pages, c.if-sum-memories.false) in
     record {
       value = (
         record {

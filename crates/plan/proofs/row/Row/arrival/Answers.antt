@@ -10,38 +10,38 @@ use Rattle.plan.proofs.row.Row.arrival.Goals as goal
 pub unwrap-n-requires : goal.unwrap-n-requires
 unwrap-n-requires c =
     let s = c.args.self.now in
-    count_ok s.partitions s.bytes.now s.at s.sound c.row-byte.result c.row-byte.ensures.value
+    count_ok s.partitions s.bytes.now s.at s.sound c.row_byte.result c.row_byte.ensures.value
 
 pub returns-then-i-n : goal.returns-then-i-n
 returns-then-i-n c =
     let s = c.args.self.now in
-    let e = ap (told (s.at + 1)) (sym c.unwrap-n.ensures) ∙ c.row-byte.ensures.value in
+    let e = ap (told (s.at + 1)) (sym c.unwrap-n.ensures) ∙ c.row_byte.ensures.value in
     record {
       value =
           sym (slice_get_past (row_in s.partitions s.bytes.now s.at) c.args.i
           (omega (arith, count_is s.partitions s.bytes.now s.at s.sound c.unwrap-n.result e)));
     }
 
-pub overflow-add-self : goal.overflow-add-self
-overflow-add-self c =
-    omega (arith, IfOk-at_ok (λ v. c.args.self.now.at + 1 ≤ length c.args.self.now.bytes.now) c.unwrap-n.ensures c.row-byte.ensures.room)
+pub overflow_add-self : goal.overflow_add-self
+overflow_add-self c =
+    omega (arith, IfOk-at_ok (λ v. c.args.self.now.at + 1 ≤ length c.args.self.now.bytes.now) c.unwrap-n.ensures c.row_byte.ensures.room)
 
-pub arrivals-end-requires : goal.arrivals-end-requires
-arrivals-end-requires c = IfOk-at_ok (λ v. c.args.self.now.at + 1 ≤ length c.args.self.now.bytes.now) c.unwrap-n.ensures c.row-byte.ensures.room
+pub arrivals_end-requires : goal.arrivals_end-requires
+arrivals_end-requires c = IfOk-at_ok (λ v. c.args.self.now.at + 1 ≤ length c.args.self.now.bytes.now) c.unwrap-n.ensures c.row_byte.ensures.room
 
 pub unwrap-k-requires : goal.unwrap-k-requires
 unwrap-k-requires c =
     let s = c.args.self.now in
-    let e = ap (told (s.at + 1)) (sym c.unwrap-n.ensures) ∙ c.row-byte.ensures.value in
-    place_ok s.partitions s.bytes.now s.at s.sound c.unwrap-n.result e c.args.i c.arrivals-end.result c.if-i-n.false c.arrivals-end.ensures.value
+    let e = ap (told (s.at + 1)) (sym c.unwrap-n.ensures) ∙ c.row_byte.ensures.value in
+    place_ok s.partitions s.bytes.now s.at s.sound c.unwrap-n.result e c.args.i c.arrivals_end.result c.if-i-n.false c.arrivals_end.ensures.value
 
 pub returns : goal.returns
 returns c =
     let s = c.args.self.now in
-    let e = ap (told (s.at + 1)) (sym c.unwrap-n.ensures) ∙ c.row-byte.ensures.value in
+    let e = ap (told (s.at + 1)) (sym c.unwrap-n.ensures) ∙ c.row_byte.ensures.value in
     record {
       value =
           c.ok.ensures.value
-          ∙ arrival_is s.partitions s.bytes.now s.at s.sound c.unwrap-n.result e c.args.i c.unwrap-k.result c.arrival-at.result c.if-i-n.false
-          (ap ended (sym c.unwrap-k.ensures) ∙ c.arrivals-end.ensures.value) c.arrival-at.ensures.value;
+          ∙ arrival_is s.partitions s.bytes.now s.at s.sound c.unwrap-n.result e c.args.i c.unwrap-k.result c.arrival_at.result c.if-i-n.false
+          (ap ended (sym c.unwrap-k.ensures) ∙ c.arrivals_end.ensures.value) c.arrival_at.ensures.value;
     }

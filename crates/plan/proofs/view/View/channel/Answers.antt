@@ -16,4 +16,4 @@ returns c =
     let xs = c.args.self.now.bytes.now in
     let h = c.header-h.result in
     let o = opened xs c.args.self.now.sound h c.header-h.ensures.value in
-    record { value = c.ok.ensures.value ∙ channel_is xs h o c.args.i _ c.channel-at.result c.if-i-h.false (omega (arith, c.from.ensures, c.from-2.ensures)) c.channel-at.ensures.value }
+    record { value = c.ok.ensures.value ∙ channel_is xs h o c.args.i _ c.channel_at.result c.if-i-h.false (omega (arith, c.from.ensures, c.from-2.ensures)) c.channel_at.ensures.value }

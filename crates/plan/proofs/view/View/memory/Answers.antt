@@ -18,8 +18,8 @@ unwrap-memories-requires c =
     let o = opened xs c.args.self.now.sound h c.header-h.ensures.value in
     ap is_ok (all_ok xs h o _ c.parts_end.result (omega (arith, c.from.ensures, c.from-2.ensures)) c.parts_end.ensures.value)
 
-pub overflow-add-begin : goal.overflow-add-begin
-overflow-add-begin c =
+pub overflow_add-begin : goal.overflow_add-begin
+overflow_add-begin c =
     let xs = c.args.self.now.bytes.now in
     let h = c.header-h.result in
     let o = opened xs c.args.self.now.sound h c.header-h.ensures.value in
@@ -29,8 +29,8 @@ overflow-add-begin c =
     (omega (arith, c.from.ensures, c.from-2.ensures)) c.parts_end.ensures.value c.unwrap-memories.ensures refl in
     omega (arith, m.1)
 
-pub overflow-add-result : goal.overflow-add-result
-overflow-add-result c =
+pub overflow_add-result : goal.overflow_add-result
+overflow_add-result c =
     let xs = c.args.self.now.bytes.now in
     let h = c.header-h.result in
     let o = opened xs c.args.self.now.sound h c.header-h.ensures.value in

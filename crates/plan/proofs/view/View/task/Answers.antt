@@ -28,8 +28,8 @@ unwrap-k-requires c =
     let h = c.header-h.result in
     let o = opened xs c.args.self.now.sound h c.header-h.ensures.value in
     let p = c.part-part.result in
-    task_ok xs h o c.args.q p.before p.at c.if-q-h.false c.part-part.ensures.before p.head c.part-part.ensures.head c.args.i c.tasks-end.result c.if-i-part.false
-    c.tasks-end.ensures.value
+    task_ok xs h o c.args.q p.before p.at c.if-q-h.false c.part-part.ensures.before p.head c.part-part.ensures.head c.args.i c.tasks_end.result c.if-i-part.false
+    c.tasks_end.ensures.value
 
 pub returns : goal.returns
 returns c =
@@ -40,6 +40,6 @@ returns c =
     record {
       value =
           c.ok.ensures.value
-          ∙ task_is xs h o c.args.q p.before p.at c.if-q-h.false c.part-part.ensures.before p.head c.part-part.ensures.head c.args.i c.unwrap-k.result c.task-at.result
-          c.if-i-part.false (ap ended (sym c.unwrap-k.ensures) ∙ c.tasks-end.ensures.value) c.task-at.ensures.value;
+          ∙ task_is xs h o c.args.q p.before p.at c.if-q-h.false c.part-part.ensures.before p.head c.part-part.ensures.head c.args.i c.unwrap-k.result c.task_at.result
+          c.if-i-part.false (ap ended (sym c.unwrap-k.ensures) ∙ c.tasks_end.ensures.value) c.task_at.ensures.value;
     }
