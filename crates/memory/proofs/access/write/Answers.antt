@@ -6,12 +6,12 @@ use Rattle.memory.proofs.access.write.Goals as goal
 
 pub returns-in-Sb : goal.returns-in-Sb
 returns-in-Sb c = record {
-  after = c.write-u8.ensures.after
+  after = c.write_u8.ensures.after
       ∙ ap (put c.args.b.now c.args.k) (low_1 c.args.value ∙ ap (λ k. bytes_of (store_bytes k) c.args.value) (sym c.in-Sb.is));
 }
 
 pub returns-in-Sh : goal.returns-in-Sh
 returns-in-Sh c = record {
-  after = c.write-u16.ensures.after
+  after = c.write_u16.ensures.after
       ∙ ap (put c.args.b.now c.args.k) (low_2 c.args.value ∙ ap (λ k. bytes_of (store_bytes k) c.args.value) (sym c.in-Sh.is));
 }

@@ -10,11 +10,11 @@ pub loop-i-preserved : goal.loop-i-preserved
 loop-i-preserved c =
     let b = c.loop-i.b in
     let i = c.loop-i.i in
-    let v = c.leaf-entry.result in (
-      entries_more b c.write-u32.new.b (4096 + 4 * i) v c.write-u32.ensures.after (omega arith) (λ j. 4096 + 4 * j) (leaf_entry c.args.pages) i refl (λ j h. omega arith) c.leaf-entry.type-inv
-          c.leaf-entry.ensures.value c.loop-i.invariant.0,
-      front_more b c.write-u32.new.b (4096 + 4 * i) v c.write-u32.ensures.after (omega arith) 4096 c.args.b.now (omega arith) c.loop-i.invariant.1,
-      back_more b c.write-u32.new.b (4096 + 4 * i) v c.write-u32.ensures.after (omega arith) 8192 c.args.b.now (omega arith) c.loop-i.invariant.2,
+    let v = c.leaf_entry.result in (
+      entries_more b c.write_u32.new.b (4096 + 4 * i) v c.write_u32.ensures.after (omega arith) (λ j. 4096 + 4 * j) (leaf_entry c.args.pages) i refl (λ j h. omega arith) c.leaf_entry.type_inv
+          c.leaf_entry.ensures.value c.loop-i.invariant.0,
+      front_more b c.write_u32.new.b (4096 + 4 * i) v c.write_u32.ensures.after (omega arith) 4096 c.args.b.now (omega arith) c.loop-i.invariant.1,
+      back_more b c.write_u32.new.b (4096 + 4 * i) v c.write_u32.ensures.after (omega arith) 8192 c.args.b.now (omega arith) c.loop-i.invariant.2,
     )
 
 pub returns : goal.returns

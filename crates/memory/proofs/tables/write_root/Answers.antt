@@ -10,10 +10,10 @@ pub loop-r-preserved : goal.loop-r-preserved
 loop-r-preserved c =
     let b = c.loop-r.b in
     let r = c.loop-r.r in
-    let v = c.root-entry.result in (
-      entries_more b c.write-u32.new.b (4 * r) v c.write-u32.ensures.after (omega arith) (λ j. 4 * j) root_entry r refl (λ j h. omega arith) c.root-entry.type-inv c.root-entry.ensures.value
+    let v = c.root_entry.result in (
+      entries_more b c.write_u32.new.b (4 * r) v c.write_u32.ensures.after (omega arith) (λ j. 4 * j) root_entry r refl (λ j h. omega arith) c.root_entry.type_inv c.root_entry.ensures.value
           c.loop-r.invariant.0,
-      back_more b c.write-u32.new.b (4 * r) v c.write-u32.ensures.after (omega arith) 4096 c.args.b.now (omega arith) c.loop-r.invariant.1,
+      back_more b c.write_u32.new.b (4 * r) v c.write_u32.ensures.after (omega arith) 4096 c.args.b.now (omega arith) c.loop-r.invariant.1,
     )
 
 pub returns : goal.returns

@@ -14,8 +14,8 @@ returns c =
     let low : c.args.byte % 256 ≡ c.args.byte = omega (arith, c.ranges.byte.fits) in
     record {
       after =
-          c.write-u8.ensures.after
-          ∙ ap (λ v. put c.write-u64.new.b (k + 8) (v ∷ [])) low
-          ∙ ap (λ xs. put xs (k + 8) (c.args.byte ∷ [])) c.write-u64.ensures.after
+          c.write_u8.ensures.after
+          ∙ ap (λ v. put c.write_u64.new.b (k + 8) (v ∷ [])) low
+          ∙ ap (λ xs. put xs (k + 8) (c.args.byte ∷ [])) c.write_u64.ensures.after
           ∙ put-behind z (bytes_of 8 t) (c.args.byte ∷ []) k (k + 8) (omega (arith, length-bytes_of 8 t)) (omega (arith, c.requires.room));
     }

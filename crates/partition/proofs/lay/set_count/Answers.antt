@@ -11,6 +11,6 @@ pub returns : goal.returns
 unfolding count_of at
 returns c =
     record {
-      value = ap (λ xs. at 1 xs 16384) c.write-u8.ensures.after ∙ ap number (between_put c.args.b.now (bytes_of 1 c.args.n) 16384 1 (omega (arith, length-bytes_of 1 c.args.n, mapped_room c.args.b.now c.requires.mapped)) (length-bytes_of 1 c.args.n)) ∙ number-bytes_of 1 c.args.n c.ranges.n.fits;
-      only = count_only c.args.b.now c.write-u8.new.b c.args.n c.requires.mapped c.write-u8.ensures.after;
+      value = ap (λ xs. at 1 xs 16384) c.write_u8.ensures.after ∙ ap number (between_put c.args.b.now (bytes_of 1 c.args.n) 16384 1 (omega (arith, length-bytes_of 1 c.args.n, mapped_room c.args.b.now c.requires.mapped)) (length-bytes_of 1 c.args.n)) ∙ number-bytes_of 1 c.args.n c.ranges.n.fits;
+      only = count_only c.args.b.now c.write_u8.new.b c.args.n c.requires.mapped c.write_u8.ensures.after;
     }

@@ -3,4 +3,4 @@ use Rattle.partition.proofs.own.count.Goals as goal
 
 pub returns : goal.returns
 unfolding count_of
-returns c = record { value = c.read-u8.ensures.value }
+returns c = record { value = c.read_u8.ensures.value }

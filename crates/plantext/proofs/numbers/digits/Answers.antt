@@ -13,7 +13,7 @@ returns-then-wanted c = record {
 pub returns-in_err-digit : goal.returns-in_err-digit
 returns-in_err-digit c = record {
   value =
-      c.from-residual.ensures
+      c.from_residual.ensures
       ∙ ap capped (sym (at_none _ _ _ _ _ c.loop-b-test.true c.if-b-eq95.false (λ l. c.in_err-digit.ensures.value (rw c.from.ensures l))))
       ∙ c.loop-b.invariant.1;
 }

@@ -3,4 +3,4 @@ use Rattle.tasks.proofs.field.began.Goals as goal
 
 pub returns : goal.returns
 unfolding run_at
-returns c = record { value = c.read-u64.ensures.value }
+returns c = record { value = c.read_u64.ensures.value }

@@ -10,8 +10,8 @@ loop-r-init c = (refl, λ k h. absurd (omega arith))
 
 pub loop-r-preserved : goal.loop-r-preserved
 loop-r-preserved c = (
-  length-set c.loop-r.x c.loop-r.r c.read-u32.result ∙ c.loop-r.invariant.0,
-  register_read c.loop-r.x (λ k. at 4 c.args.t.now (256 * c.args.i + 128 + 4 * k)) c.loop-r.r c.read-u32.result (omega arith) c.read-u32.ensures.value c.loop-r.invariant.1,
+  length-set c.loop-r.x c.loop-r.r c.read_u32.result ∙ c.loop-r.invariant.0,
+  register_read c.loop-r.x (λ k. at 4 c.args.t.now (256 * c.args.i + 128 + 4 * k)) c.loop-r.r c.read_u32.result (omega arith) c.read_u32.ensures.value c.loop-r.invariant.1,
 )
 
 pub returns : goal.returns
@@ -20,6 +20,6 @@ returns c =
     record {
       value =
           c.of.ensures.value
-          ∙ sym (core_is c.args.t.now c.args.i _ _ (sym c.read-u32-2.ensures.value)
+          ∙ sym (core_is c.args.t.now c.args.i _ _ (sym c.read_u32-2.ensures.value)
           (sym (registers_read c.loop-r.x (λ k. at 4 c.args.t.now (256 * c.args.i + 128 + 4 * k)) c.loop-r.invariant.0 (λ k h. c.loop-r.invariant.1 k (omega arith)))));
     }

@@ -9,6 +9,6 @@ unfolding run_at
 returns c =
     record {
       value =
-          c.read-u8.ensures.value
+          c.read_u8.ensures.value
           ∙ late_going (at 1 c.args.t.now (256 * c.args.i)) (at 1 c.args.t.now (256 * c.args.i + 1)) c.requires.going;
     }

@@ -7,6 +7,6 @@ returns c =
     record {
       value =
           sym (task_is c.args.t.now c.args.i
-          (record { priority = c.read-u8.result; period = c.read-u32.result; deadline = c.read-u32-2.result; lates = c.read-u8-2.result })
-          (sym c.read-u8.ensures.value) (sym c.read-u32.ensures.value) (sym c.read-u32-2.ensures.value) (sym c.read-u8-2.ensures.value));
+          (record { priority = c.read_u8.result; period = c.read_u32.result; deadline = c.read_u32-2.result; lates = c.read_u8-2.result })
+          (sym c.read_u8.ensures.value) (sym c.read_u32.ensures.value) (sym c.read_u32-2.ensures.value) (sym c.read_u8-2.ensures.value));
     }

@@ -9,14 +9,14 @@ loop-r-init c = (outside_none _ _ _, λ k h. absurd (omega arith))
 
 pub loop-r-preserved : goal.loop-r-preserved
 loop-r-preserved c =
-    register_more c.write-u32.new.b c.loop-r.t c.write-u32-in-loop-r.new.b c.all-x.result c.args.i c.loop-r.r
-    (omega arith) c.requires.below (omega arith) c.write-u32-in-loop-r.ensures.after (omega arith) c.loop-r.invariant
+    register_more c.write_u32.new.b c.loop-r.t c.write_u32-in-loop-r.new.b c.all-x.result c.args.i c.loop-r.r
+    (omega arith) c.requires.below (omega arith) c.write_u32-in-loop-r.ensures.after (omega arith) c.loop-r.invariant
 
 pub returns : goal.returns
 returns c =
     let t = c.args.t.now in
-    let t₁ = c.write-u32.new.b in
-    let e = c.write-u32.ensures.after in
+    let t₁ = c.write_u32.new.b in
+    let e = c.write_u32.ensures.after in
     record {
       run =
           core_run t t₁ c.loop-r.t c.all-x.result c.args.i c.pc.result c.requires.size c.requires.below e c.loop-r.invariant.0 (omega arith) (omega arith) c.all-x.ensures.zero

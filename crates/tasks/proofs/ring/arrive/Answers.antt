@@ -12,7 +12,7 @@ returns c =
     let less : c.count-many.result < 1024 = omega arith in
     record {
       heard =
-          ap heard_in c.write-u32.ensures.after
+          ap heard_in c.write_u32.ensures.after
           ∙ arrived c.args.r.now (place_of c.head.result c.count-many.result) c.count-many.result c.args.byte c.requires.size c.count-many.ensures.value less
           (ap (λ h. place_of h c.count-many.result) c.head.ensures.value);
     }

@@ -4,4 +4,4 @@ use Rattle.tasks.proofs.Unheard.{cleared}
 use Rattle.tasks.proofs.ring.clear.Goals as goal
 
 pub returns : goal.returns
-returns c = record { heard = ap heard_in c.write-u32.ensures.after ∙ cleared c.args.r.now c.requires.size }
+returns c = record { heard = ap heard_in c.write_u32.ensures.after ∙ cleared c.args.r.now c.requires.size }

@@ -4,4 +4,4 @@ use Rattle.tasks.proofs.ring.head.Goals as goal
 
 pub returns : goal.returns
 unfolding head_in
-returns c = record { value = ap (λ n. n % 1024) c.read-u32.ensures.value; below = omega arith }
+returns c = record { value = ap (λ n. n % 1024) c.read_u32.ensures.value; below = omega arith }

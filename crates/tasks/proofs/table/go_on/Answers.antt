@@ -8,7 +8,7 @@ pub returns : goal.returns
 returns c =
     let r = run_at c.args.t.now c.args.i in
     record {
-      run = goes_on_lem r (run_at c.set-core.new.t c.args.i) (core_of c.args.core) (ready_is r.state c.requires.ready) c.set-core.ensures.run;
-      plan = c.set-core.ensures.plan;
-      others = c.set-core.ensures.others;
+      run = goes_on_lem r (run_at c.set_core.new.t c.args.i) (core_of c.args.core) (ready_is r.state c.requires.ready) c.set_core.ensures.run;
+      plan = c.set_core.ensures.plan;
+      others = c.set_core.ensures.others;
     }

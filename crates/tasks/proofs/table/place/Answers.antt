@@ -10,8 +10,8 @@ pub returns : goal.returns
 returns c =
     record {
       run =
-          begins (run_at c.set-plan.new.t c.args.i) (run_at c.set-state.new.t c.args.i) (run_at c.set-began.new.t c.args.i) (run_at c.set-core.new.t c.args.i)
-          (core_of c.new.result) (fresh c.args.i) 0 0 0 0 c.set-state.ensures.run c.set-began.ensures.run c.set-core.ensures.run c.new.ensures.value refl refl;
-      plan = c.set-core.ensures.plan ∙ c.set-began.ensures.plan ∙ c.set-state.ensures.plan ∙ c.set-plan.ensures.plan;
-      others = others_then c.set-plan.ensures.others (others_then c.set-state.ensures.others (others_then c.set-began.ensures.others c.set-core.ensures.others));
+          begins (run_at c.set_plan.new.t c.args.i) (run_at c.set_state.new.t c.args.i) (run_at c.set_began.new.t c.args.i) (run_at c.set_core.new.t c.args.i)
+          (core_of c.new.result) (fresh c.args.i) 0 0 0 0 c.set_state.ensures.run c.set_began.ensures.run c.set_core.ensures.run c.new.ensures.value refl refl;
+      plan = c.set_core.ensures.plan ∙ c.set_began.ensures.plan ∙ c.set_state.ensures.plan ∙ c.set_plan.ensures.plan;
+      others = others_then c.set_plan.ensures.others (others_then c.set_state.ensures.others (others_then c.set_began.ensures.others c.set_core.ensures.others));
     }

@@ -11,7 +11,7 @@ late-late-requires c =
 pub returns : goal.returns
 returns c =
     record {
-      run = stops_here (run_at c.args.t.now c.args.i) (run_at c.set-state.new.t c.args.i) c.late-late.result c.late-late.ensures.value c.set-state.ensures.run;
-      plan = c.set-state.ensures.plan;
-      others = c.set-state.ensures.others;
+      run = stops_here (run_at c.args.t.now c.args.i) (run_at c.set_state.new.t c.args.i) c.late-late.result c.late-late.ensures.value c.set_state.ensures.run;
+      plan = c.set_state.ensures.plan;
+      others = c.set_state.ensures.others;
     }

@@ -10,7 +10,7 @@ returns-in-Ready c =
     let k = task_at c.args.t.now c.args.i in
     let s = sym c.in-Ready.ensures.value in
     let e : c.left.result ≡ stays k c.args.time r =
-    before_is c.args.time c.began.result r.began c.plan-of.result.deadline k.deadline c.left.result c.left.ensures.value c.began.ensures.value (ap (λ x. x.deadline) c.plan-of.ensures.value)
+    before_is c.args.time c.began.result r.began c.plan_of.result.deadline k.deadline c.left.result c.left.ensures.value c.began.ensures.value (ap (λ x. x.deadline) c.plan_of.ensures.value)
     ∙ sym (stays_ready k c.args.time r s) in
     record {
       value = e;
@@ -24,7 +24,7 @@ returns-in-Waiting c =
     let k = task_at c.args.t.now c.args.i in
     let s = sym c.in-Waiting.ensures.value in
     let e : c.left-in-Waiting.result ≡ stays k c.args.time r =
-    before_is c.args.time c.began-in-Waiting.result r.began c.plan-of-in-Waiting.result.period k.period c.left-in-Waiting.result c.left-in-Waiting.ensures.value c.began-in-Waiting.ensures.value (ap (λ x. x.period) c.plan-of-in-Waiting.ensures.value)
+    before_is c.args.time c.began-in-Waiting.result r.began c.plan_of-in-Waiting.result.period k.period c.left-in-Waiting.result c.left-in-Waiting.ensures.value c.began-in-Waiting.ensures.value (ap (λ x. x.period) c.plan_of-in-Waiting.ensures.value)
     ∙ sym (stays_waiting k c.args.time r s) in
     record {
       value = e;

@@ -9,8 +9,8 @@ pub returns : goal.returns
 returns c =
     record {
       run =
-          waits_on (run_at c.args.t.now c.args.i) (run_at c.set-core.new.t c.args.i) (run_at c.set-state.new.t c.args.i) (core_of c.args.core)
-          c.set-core.ensures.run c.set-state.ensures.run;
-      plan = c.set-state.ensures.plan ∙ c.set-core.ensures.plan;
-      others = others_then c.set-core.ensures.others c.set-state.ensures.others;
+          waits_on (run_at c.args.t.now c.args.i) (run_at c.set_core.new.t c.args.i) (run_at c.set_state.new.t c.args.i) (core_of c.args.core)
+          c.set_core.ensures.run c.set_state.ensures.run;
+      plan = c.set_state.ensures.plan ∙ c.set_core.ensures.plan;
+      others = others_then c.set_core.ensures.others c.set_state.ensures.others;
     }
