@@ -9,6 +9,7 @@ use memories::{Memory, filled};
 use plantext::{Fault, FileFault, Outcome, Partition, Wrong};
 use std::alloc::Global;
 use std::path::PathBuf;
+use std::process::ExitCode;
 use std::{env, fs};
 use troubles::Trouble;
 
@@ -107,12 +108,12 @@ fn run(rt: &HostRuntime) -> Result<(), Trouble> {
     Err(Trouble::NotWritten(String::from_str(heap, words[2].as_str())?))
 }
 
-fn main(rt: HostRuntime) -> Result<(), Trouble> {
+fn main(rt: HostRuntime) -> ExitCode {
     match run(&rt) {
-        Ok(()) => Ok(()),
+        Ok(()) => ExitCode::SUCCESS,
         Err(trouble) => {
             let _ = eprintln!(rt; "{trouble}");
-            Err(trouble)
+            ExitCode::FAILURE
         }
     }
 }

@@ -1,10 +1,10 @@
 //! The model as a program to be run: prints what each partition shows, and when.
-use anyhow::anyhow;
 use files::Outcome;
 use plan::check::check;
 use plan::refusal::Refusal;
 use plan::view::View;
 use reference::shown::Shown;
+use std::process::ExitCode;
 use std::{env, fs};
 
 mod files;
@@ -159,11 +159,7 @@ fn go(rt: &HostRuntime) -> anyhow::Result<bool> {
     start(rt, words.as_slice())
 }
 
-fn main(rt: HostRuntime) -> anyhow::Result<()> {
+fn main(rt: HostRuntime) -> anyhow::Result<ExitCode> {
     let done = go(&rt)?;
-    if done {
-        Ok(())
-    } else {
-        Err(anyhow!("refused"))
-    }
+    if done { Ok(ExitCode::SUCCESS) } else { Ok(ExitCode::FAILURE) }
 }
