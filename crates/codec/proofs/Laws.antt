@@ -1,11 +1,11 @@
 -- One law for each way to make a kind.
-use Rattle.std.proofs.Common.{◌≡◌, ℕ, ◌+◌, ◌-◌, ◌^◌, ◌<◌, ◌≤◌, Bool, true, false, cond, ◌&&◌, eqb, leb, List, [], ◌∷◌, ◌++◌, length, get_or, take, drop, sym, refl, ap, ◌∙◌, subst, arith}
+use Rattle.std.proofs.Common.{◌≡◌, ℕ, ◌+◌, ◌-◌, ◌^◌, ◌<◌, ◌≤◌, cond, eqb, leb, List, [], ◌∷◌, length, take, drop, sym, refl, ap, ◌∙◌, subst, arith}
 use Rattle.std.proofs.lemmas.Bool.{le-leb, leb-true, and_from, and_parts, cond-true, eq-eqb, eqb-true}
 use Rattle.std.proofs.lemmas.List.{length-append, length-take, length-drop, take_all}
 use Rattle.octets.specs.Bytes.{at, bytes_of}
 use Rattle.octets.specs.Bytes as byte
 use Rattle.octets.proofs.Numbers.{length-bytes_of, number-bytes_of, bytes_of-number}
-use Rattle.codec.specs.Codec.{Outcome, got, refused, follow, map_out, Codec, Bytes, number, raw, chain, ◌▸◌, each, read_each, write_each, ProperEach, times, named, whole}
+use Rattle.codec.specs.Codec.{got, refused, follow, map_out, Codec, Bytes, number, raw, chain, ◌▸◌, each, read_each, write_each, ProperEach, times, named, whole}
 use Rattle.codec.specs.Lawful.{Stands, Read, Lawful}
 use Rattle.codec.proofs.Stand.{stands_within, stands_left, stands_right, stands_both, bytes_part}
 use Rattle.codec.proofs.Outcomes.{got_value, got_place, follow_got, map-got, cond_got}

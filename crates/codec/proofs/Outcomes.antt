@@ -1,5 +1,5 @@
 -- What a reading that went well says of its parts.
-use Rattle.std.proofs.Common.{◌≡◌, ℕ, Bool, true, false, cond, List, [], ◌∷◌, ◌++◌, sym, refl, ap, ◌∙◌, arith}
+use Rattle.std.proofs.Common.{◌≡◌, ℕ, Bool, true, false, cond, List, sym, refl, ap, arith}
 use Rattle.codec.specs.Codec.{Outcome, got, refused, follow, map_out, Codec, chain}
 
 pub never : {A : Type 0} {a : A} {j n p : ℕ} → refused n p ≡ got a j → ⊥

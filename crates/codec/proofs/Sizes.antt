@@ -1,7 +1,7 @@
 -- Kinds whose things all have the same size, and the things of a row by their places.
-use Rattle.std.proofs.Common.{◌≡◌, ℕ, zero, suc, ◌+◌, ◌-◌, ◌*◌, ◌<◌, ◌≤◌, cond, ◌&&◌, leb, List, [], ◌∷◌, length, get_or, take, sym, refl, ap, ◌∙◌, mul-suc, arith}
+use Rattle.std.proofs.Common.{◌≡◌, ℕ, zero, suc, ◌+◌, ◌*◌, ◌<◌, cond, ◌&&◌, leb, List, [], ◌∷◌, length, get_or, take, sym, refl, ap, ◌∙◌, mul-suc, arith}
 use Rattle.octets.specs.Bytes.{at}
-use Rattle.codec.specs.Codec.{Outcome, got, refused, follow, map_out, Codec, number, chain, ◌▸◌, read_each, each, times, named}
+use Rattle.codec.specs.Codec.{got, refused, follow, map_out, Codec, number, chain, read_each, each, times, named}
 use Rattle.codec.proofs.Outcomes.{got_value, got_place, follow_got, map-got, cond_got}
 
 abbrev pub Sized : {A : Type 0} → Codec A → ℕ → Type 0

@@ -1,6 +1,6 @@
 -- Things of one kind, one behind the other, a step at a time; and what came of reading, seen through functions.
-use Rattle.std.proofs.Common.{◌≡◌, ℕ, suc, ◌+◌, ◌-◌, ◌<◌, ◌≤◌, List, [], ◌∷◌, replicate, sym, refl, ap, ◌∙◌, arith}
-use Rattle.codec.specs.Codec.{Outcome, got, refused, follow, map_out, Codec, read_each, times}
+use Rattle.std.proofs.Common.{◌≡◌, ℕ, suc, ◌+◌, ◌-◌, ◌<◌, ◌≤◌, List, [], ◌∷◌, refl, ap, ◌∙◌, arith}
+use Rattle.codec.specs.Codec.{Outcome, got, refused, follow, map_out, Codec, times}
 
 pub map-map : {A B C : Type 0} (f : B → C) (g : A → B) (o : Outcome A) → map_out f (map_out g o) ≡ map_out (λ a. f (g a)) o
 map-map f g (got a j) = refl

@@ -1,6 +1,6 @@
 -- What ties a kind's reading to its writing. Assumes nothing: these are definitions.
 use Rattle.std.specs.Prelude.{◌≡◌, ℕ, ◌+◌, ◌^◌, ◌<◌, ◌≤◌, List, length, take, drop}
-use Rattle.codec.specs.Codec.{Outcome, got, Codec, Bytes, number, raw}
+use Rattle.codec.specs.Codec.{got, Codec, Bytes, number, raw}
 
 -- The bytes ys stand in xs from place k on.
 abbrev pub Stands : List ℕ → List ℕ → ℕ → Type 0

@@ -6,6 +6,8 @@
 //! is proper and stands there. Those of a number and of bytes stand in `laws_stand`, and all of them in `proofs/Laws`, for
 //! the formats above. Promises that `number_at` reads a number as the kind `number` does. Knows no format, and of a
 //! refusal only its number and place. Headline: `number_at`, clause `value`.
+#![tactic(auto)]
+
 ghost use Rattle.std.specs.Prelude.{◌≡◌, ℕ};
 ghost use Rattle.codec.specs.Codec.{number};
 ghost use Rattle.codec.specs.Lawful.{NumberLaw, RawLaw};

@@ -1,6 +1,8 @@
 //! Worked cases of the core, at the edges of each instruction: what a word of the manual's formats does.
 //!
 //! Owns no code of the system. In each row x5 and x6 are read, x7 is written, the pc is 256, and memory has 4096 bytes.
+#![tactic(auto)]
+
 #[cfg(test)]
 mod tests {
     use cpu::access::finish;

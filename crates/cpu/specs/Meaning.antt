@@ -1,6 +1,6 @@
 -- What the instructions compute, in the manual's order. A register holds a number below 2 ^ 32; a signed instruction is
 -- about the integer that it stands for. Assumes nothing: these are definitions.
-use Rattle.std.specs.Prelude.{ℕ, ◌+◌, ◌*◌, ◌/◌, ◌%◌, ◌^◌, Bool, true, false, not, ℤ, pos, ◌+ℤ◌, ◌-ℤ◌, ◌==◌, bit_and, bit_or, bit_xor, int_lt, nat_lt}
+use Rattle.std.specs.Prelude.{ℕ, ◌*◌, ◌/◌, ◌%◌, ◌^◌, Bool, true, false, not, ℤ, pos, ◌+ℤ◌, ◌-ℤ◌, ◌==◌, bit_and, bit_or, bit_xor, int_lt, nat_lt}
 use Rattle.std.specs.Int.{int_div_euclid}
 use Rattle.decode.specs.Fields.{signed}
 use Rattle.decode.specs.Encodes.{low_bits}

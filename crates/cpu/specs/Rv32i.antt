@@ -2,7 +2,6 @@
 -- are definitions.
 use Rattle.std.specs.Prelude.{ℕ, cond, List, length, Some, None, Option, ◌==◌, slice_index, slice_set}
 use Rattle.octets.specs.Bytes.{at, bytes_of}
-use Rattle.decode.specs.declared.reg.Reg.{Reg}
 use Rattle.decode.specs.declared.instruction.Instruction.{Instruction}
 use Rattle.decode.specs.Decoded.{decoded}
 use Rattle.cpu.specs.declared.call.Call.{Call}

@@ -4,6 +4,8 @@
 //! load or store, and finishes a load with the bytes that it is given.
 //! Promises: what a word's instruction does is what the manual says of it, over the integers where it is about signed
 //! numbers, and an access lies in memory. Headline: `Registers::step`, clause `value`.
+#![tactic(auto)]
+
 pub mod access;
 pub mod call;
 pub mod effect;

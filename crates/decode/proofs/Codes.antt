@@ -1,8 +1,6 @@
 -- The functs of each kind, there and back.
 use Rattle.std.proofs.Common.{◌≡◌, ℕ, ◌^◌, ◌<◌, cond, eqb, Some, None, Option, refl, lit<}
 use Rattle.std.proofs.lemmas.Bool.{cond_both, eqb-true}
-use Rattle.decode.specs.declared.instruction.Instruction.{Instruction}
-use Rattle.decode.specs.declared.instruction.Instruction.TheVariants.{Lui, Auipc, Jal, Jalr, Branch, Load, Store, Immediate, Shift, Register, Fence, Ecall}
 use Rattle.decode.specs.declared.instruction.Condition.{Condition}
 use Rattle.decode.specs.declared.instruction.Condition.TheVariants.{Beq, Bne, Blt, Bge, Bltu, Bgeu}
 use Rattle.decode.specs.declared.instruction.LoadKind.{LoadKind}

@@ -1,11 +1,10 @@
 -- A word is what its fields assemble to, in each format; and where it is assembled in a format, they are its fields.
-use Rattle.std.proofs.Common.{◌≡◌, ℕ, ◌+◌, ◌*◌, ◌/◌, ◌%◌, ◌^◌, ◌<◌, ℤ, pos, nat_abs, sym, refl, ap, ◌∙◌, arith}
-use Rattle.std.specs.Int.{int_rem_euclid}
+use Rattle.std.proofs.Common.{◌≡◌, ℕ, ◌+◌, ◌*◌, ◌/◌, ◌%◌, ◌^◌, ◌<◌, ℤ, ap, ◌∙◌, arith}
 use Rattle.decode.specs.declared.reg.Reg.{Reg}
 use Rattle.decode.specs.Fields.{reg_of, signed, opcode_of, rd_of, funct3_of, rs1_of, rs2_of, funct7_of, amount_of, immediate_i, immediate_s, immediate_b, immediate_u, immediate_j}
-use Rattle.decode.specs.Encodes.{low_bits, bits, InRange, FormatR, FormatI, FormatShift, FormatS, FormatB, FormatU, FormatJ}
+use Rattle.decode.specs.Encodes.{low_bits, bits, FormatR, FormatI, FormatShift, FormatS, FormatB, FormatU, FormatJ}
 use Rattle.decode.proofs.SameRegister.{same_register}
-use Rattle.decode.proofs.Layouts.{split, InU, found_U, made_U, InI, found_I, made_I, InR, found_R, made_R, InB, found_B, made_B_high, made_B_low, InJ, found_J, made_J}
+use Rattle.decode.proofs.Layouts.{split, found_U, made_U, found_I, made_I, found_R, made_R, found_B, made_B_high, made_B_low, found_J, made_J}
 use Rattle.decode.proofs.TwosComplement.{low_of_signed, signed_of_low, signed_least, signed_most, low_below}
 
 -- The bits of an immediate that is put together from parts, and such an immediate from its bits.

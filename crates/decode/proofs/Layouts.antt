@@ -1,6 +1,6 @@
 -- A word and its fields: where a word is assembled from fields, they are found in it, and a word is assembled from what
 -- is found in it.
-use Rattle.std.proofs.Common.{◌≡◌, ℕ, ◌+◌, ◌*◌, ◌/◌, ◌%◌, ◌^◌, ◌<◌, sym, ap, ◌∙◌, arith}
+use Rattle.std.proofs.Common.{◌≡◌, ℕ, ◌+◌, ◌*◌, ◌/◌, ◌%◌, ◌^◌, ◌<◌, sym, ap, ◌∙◌}
 use Rattle.std.proofs.lemmas.Nat.{shr-shr, shr_split, shr_high, mod_low}
 
 -- What stands from bit j on is what stands from bit j + k on, and k bits.

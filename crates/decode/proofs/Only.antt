@@ -1,21 +1,9 @@
 -- A word is decoded to each instruction that has it.
-use Rattle.std.proofs.Common.{◌≡◌, ℕ, ◌/◌, ◌%◌, ◌^◌, ◌<◌, Some, None, Option, sym, refl, ap, ◌∙◌, arith, lit<}
+use Rattle.std.proofs.Common.{◌≡◌, ℕ, Some, ap, ◌∙◌, arith, lit<}
 use Rattle.decode.specs.declared.instruction.Instruction.{Instruction}
 use Rattle.decode.specs.declared.instruction.Instruction.TheVariants.{Lui, Auipc, Jal, Jalr, Branch, Load, Store, Immediate, Shift, Register, Fence, Ecall}
-use Rattle.decode.specs.declared.instruction.Condition.{Condition}
-use Rattle.decode.specs.declared.instruction.Condition.TheVariants.{Beq, Bne, Blt, Bge, Bltu, Bgeu}
-use Rattle.decode.specs.declared.instruction.LoadKind.{LoadKind}
-use Rattle.decode.specs.declared.instruction.LoadKind.TheVariants.{Lb, Lh, Lw, Lbu, Lhu}
-use Rattle.decode.specs.declared.instruction.StoreKind.{StoreKind}
-use Rattle.decode.specs.declared.instruction.StoreKind.TheVariants.{Sb, Sh, Sw}
-use Rattle.decode.specs.declared.instruction.ImmediateOp.{ImmediateOp}
-use Rattle.decode.specs.declared.instruction.ImmediateOp.TheVariants.{Addi, Slti, Sltiu, Xori, Ori, Andi}
-use Rattle.decode.specs.declared.instruction.ShiftOp.{ShiftOp}
-use Rattle.decode.specs.declared.instruction.ShiftOp.TheVariants.{Slli, Srli, Srai}
-use Rattle.decode.specs.declared.instruction.RegisterOp.{RegisterOp}
-use Rattle.decode.specs.declared.instruction.RegisterOp.TheVariants.{Add, Sub, Sll, Slt, Sltu, Xor, Srl, Sra, Or, And}
-use Rattle.decode.specs.Fields.{opcode_of, rd_of, funct3_of, rs1_of, rs2_of, funct7_of, amount_of, immediate_i, immediate_s, immediate_b, immediate_u, immediate_j}
-use Rattle.decode.specs.Decoded.{condition_of, load_kind_of, store_kind_of, immediate_op_of, shift_op_of, register_op_of, branch_with, load_with, store_with, shift_with, immediate_with, register_with, jalr_with, fence_with, system_of, classed, decoded}
+use Rattle.decode.specs.Fields.{opcode_of}
+use Rattle.decode.specs.Decoded.{condition_of, load_kind_of, store_kind_of, immediate_op_of, shift_op_of, register_op_of, branch_with, load_with, store_with, shift_with, immediate_with, register_with, jalr_with, fence_with, classed, decoded}
 use Rattle.decode.specs.Encodes.{branch_funct3, load_funct3, store_funct3, immediate_funct3, shift_functs, register_functs, Encodes}
 use Rattle.decode.proofs.Formats.{found_format_R, found_format_I, found_format_shift, found_format_S, found_format_B, found_format_U, found_format_J}
 use Rattle.decode.proofs.Codes.{condition_back, condition_small, load_back, load_small, store_back, store_small, immediate_back, immediate_small, shift_no_immediate, shift_back, shift_small, register_back, register_small}

@@ -3,6 +3,8 @@
 //! Owns what an instruction is, and the formats in which it is written. Knows nothing of registers' values or of memory.
 //! Promises: `decode` gives the instruction that the manual's formats assemble into the word, and nothing for the words
 //! that no instruction has. Headline: `decode`, clauses `encodes` and `only`.
+#![tactic(auto)]
+
 ghost use Rattle.std.specs.Prelude.{◌≡◌, ◌*◌, ◌/◌, ◌^◌, ◌<◌, ◌≤◌, Some};
 ghost use Rattle.decode.specs.Decoded.{
   branch_with,

@@ -1,11 +1,11 @@
 -- A block's control frames and memory: what is read in them, and what a write to the block leaves of them.
-use Rattle.std.proofs.Common.{◌≡◌, ℕ, ◌+◌, ◌-◌, ◌*◌, ◌/◌, ◌<◌, ◌≤◌, min, ◌⊎◌, List, [], ◌∷◌, ◌++◌, length, get_or, take, drop, sym, refl, ap, ◌∙◌, inl, inr, ⊎_elim, arith, rules}
+use Rattle.std.proofs.Common.{◌≡◌, ℕ, ◌+◌, ◌-◌, ◌*◌, ◌/◌, ◌<◌, ◌≤◌, ◌⊎◌, List, ◌++◌, length, take, drop, sym, ap, ◌∙◌, inl, inr, ⊎_elim, arith, rules}
 use Rattle.std.specs.List.{between}
-use Rattle.std.proofs.lemmas.List.{places, same_lists, drop-drop, length-take, length-take-le, length-drop, take-append-drop, take-take}
+use Rattle.std.proofs.lemmas.List.{places, same_lists, drop-drop, length-take-le, length-drop, take-append-drop, take-take}
 use Rattle.std.proofs.lemmas.Slice.{between_is}
 use Rattle.octets.specs.Bytes.{put, number, at}
 use Rattle.octets.proofs.Puts.{length-put, between_put, between-put_other}
-use Rattle.memory.specs.Frames.{control_of, memory_of, frame, pages_of, root_entry, leaf_entry, Mapped}
+use Rattle.memory.specs.Frames.{control_of, memory_of, frame, pages_of, leaf_entry, Mapped}
 
 -- ---- writes to a row, in front of a place and behind it
 

@@ -4,5 +4,7 @@
 //! other partitions: it is lent one block. Promises: a fetch, a load or a store does to the block what it does to the plain
 //! memory, an address that has no entry is outside memory, and the control frames stay as they are.
 //! Headline: `access::store`, clauses `memory` and `control`.
+#![tactic(auto)]
+
 pub mod access;
 pub mod tables;

@@ -1,5 +1,5 @@
 -- The memories from a place on. Assumes nothing.
-use Rattle.std.proofs.Common.{◌≡◌, ℕ, ◌+◌, ◌*◌, ◌<◌, ◌≤◌, List, [], ◌∷◌, length, get_or, drop, sym, refl, ap, ◌∙◌, add-one, arith, drop-cons}
+use Rattle.std.proofs.Common.{◌≡◌, ℕ, ◌+◌, ◌*◌, ◌<◌, List, length, get_or, drop, sym, ap, ◌∙◌, add-one, drop-cons}
 use lib.Seq.{drop-length}
 use Rattle.mkplan.specs.declared.memories.Memory.{Memory}
 use Rattle.mkplan.specs.Sizes.{room}

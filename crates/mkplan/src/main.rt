@@ -1,4 +1,6 @@
 //! `mkplan TEXT PLAN` makes a plan's bytes from its text. docs/PLAN-TEXT.md says what the text is.
+#![tactic(auto)]
+
 ghost use Rattle.std.specs.Prelude.{◌≡◌, length, IfOk, vec_len};
 
 mod layout;

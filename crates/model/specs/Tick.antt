@@ -1,6 +1,6 @@
 -- What a tick does. A partition's own tick is a function of what the partition may see: its tasks' plan, the time, the
 -- channels that it has an end of, and its own part. Assumes nothing: these are definitions.
-use Rattle.std.specs.Prelude.{ℕ, zero, suc, ◌+◌, ◌-◌, ◌*◌, ◌%◌, Bool, true, false, cond, ◌&&◌, ◌||◌, List, [], ◌∷◌, ◌++◌, map, length, get_or, drop, replicate, Some, None, Option, ◌==◌, nat_le, nat_lt, slice_index_or, slice_set}
+use Rattle.std.specs.Prelude.{ℕ, zero, suc, ◌+◌, ◌-◌, ◌%◌, Bool, true, false, cond, ◌&&◌, ◌||◌, List, [], ◌∷◌, ◌++◌, length, get_or, drop, replicate, Some, None, Option, ◌==◌, nat_le, nat_lt, slice_index_or, slice_set}
 use Rattle.std.specs.List.{between}
 use Rattle.octets.specs.Bytes.{put}
 use Rattle.cpu.specs.Act.{Act, quiet, store, call, wrong, Machine}
@@ -13,7 +13,7 @@ use Rattle.model.specs.declared.plan.Task.{Task}
 use Rattle.model.specs.declared.plan.Arrival.{Arrival}
 use Rattle.model.specs.declared.plan.State.{State}
 use Rattle.model.specs.declared.plan.State.TheVariants.{Ready, Waiting, Stopped}
-use Rattle.model.specs.World.{Plan, Run, Part, Sent, World, no_part, no_task, part, messages, channel, turn}
+use Rattle.model.specs.World.{Plan, Run, Part, Sent, World, no_task, part, messages, channel, turn}
 
 -- The answer of a call that is refused.
 abbrev pub no : ℕ

@@ -18,6 +18,8 @@
 //!
 //! It does not know a plan's bytes, nor how memory lies in frames, nor how any of this is computed: the crates above are
 //! proved to do what is said here. Nor does it say which plans are proper: its promises hold of every plan.
+#![tactic(auto)]
+
 pub mod plan;
 pub mod promises;
 pub mod rv32i;

@@ -1,11 +1,10 @@
 -- A row after a write.
-use Rattle.std.proofs.Common.{◌≡◌, ℕ, zero, suc, ◌+◌, ◌-◌, ◌^◌, ◌<◌, ◌≤◌, ◌⊎◌, List, [], ◌∷◌, ◌++◌, length, get_or, take, drop, set, sym, refl, ap, ◌∙◌, inl, inr, ⊎_elim, append_assoc, arith, rules}
+use Rattle.std.proofs.Common.{◌≡◌, ℕ, suc, ◌+◌, ◌-◌, ◌<◌, ◌≤◌, ◌⊎◌, List, [], ◌∷◌, ◌++◌, length, get_or, take, drop, set, sym, refl, ap, ◌∙◌, ⊎_elim, append_assoc, arith, rules}
 use borrow.Rule.Slice.PartMut.{put_mid}
 use Rattle.std.specs.List.{between}
-use Rattle.std.proofs.lemmas.List.{places, same_lists, drop-drop, drop_at, take_at, length-append, length-drop, length-take-le, get_or_append_left, get_or-append_right, get_or-take, get_or-drop, set_split}
+use Rattle.std.proofs.lemmas.List.{places, drop-drop, drop_at, take_at, length-append, length-take-le, set_split}
 use Rattle.std.proofs.lemmas.Slice.{between_is, take-put_mid, take-put_mid_below, drop-put_mid}
-use Rattle.octets.specs.Bytes.{put, number, bytes_of, at}
-use Rattle.octets.proofs.Numbers.{length-bytes_of, number-bytes_of}
+use Rattle.octets.specs.Bytes.{put}
 
 -- What a write to a part of a lent slice leaves.
 pub put_is : (xs ys : List ℕ) (a k : ℕ) → length ys ≡ k → put_mid a k xs ys ≡ put xs a ys

@@ -4,6 +4,8 @@
 //! every width. Promises that a read gives the number at its place, and that a write changes the bytes of its place and no
 //! others. Knows nothing of what the bytes are for. A place outside the slice is ruled out where a function is called, as
 //! for an index. Headline: `write_u32`, clause `after`.
+#![tactic(auto)]
+
 ghost use Rattle.std.specs.Prelude.{◌≡◌, ◌+◌, ◌<◌, ◌≤◌, [], ◌∷◌, length};
 ghost use Rattle.octets.specs.Bytes.{at, put, bytes_of};
 ghost use Rattle.octets.specs.Laws.{ReadsBack, KeepsOthers, KeepsLength, Restores};

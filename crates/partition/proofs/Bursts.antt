@@ -4,11 +4,10 @@ use Rattle.std.specs.List.{flat_map}
 use Rattle.std.proofs.lemmas.List.{append-nil, length-append, take-append-drop}
 use Rattle.octets.specs.Bytes.{put, bytes_of}
 use Rattle.octets.proofs.Numbers.{length-bytes_of}
-use Rattle.octets.proofs.Puts.{put-behind, length-put}
+use Rattle.octets.proofs.Puts.{put-behind}
 use Rattle.cpu.specs.Core.{Core}
 use Rattle.cpu.specs.Rv32i.{act}
-use Rattle.model.specs.declared.plan.Task.{Task}
-use Rattle.model.specs.World.{Run, Part}
+use Rattle.model.specs.World.{Run}
 use Rattle.model.specs.Tick.{acted, update, goes_on, waits, stops}
 use Rattle.memory.specs.Frames.{memory_of, Mapped}
 use Rattle.partition.specs.declared.came.Came.{Came}
@@ -16,7 +15,7 @@ use Rattle.partition.specs.declared.came.Came.TheVariants.{Goes, Shows, Waits, S
 use Rattle.partition.specs.declared.came.End.{End}
 use Rattle.partition.specs.declared.came.End.TheVariants.{Ready, Waiting, Stopped}
 use Rattle.partition.specs.Block.{over, TableKept}
-use Rattle.partition.specs.Stretch.{none_seen, looked_ticks, Busy}
+use Rattle.partition.specs.Stretch.{none_seen, looked_ticks}
 use Rattle.partition.specs.Shown.{entry_bytes}
 use Rattle.partition.specs.Steps.{Did, Still, said_by, turned_by, ended_by, Bursted}
 use Rattle.partition.proofs.Stretch.{busy_more, update_update}

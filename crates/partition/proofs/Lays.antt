@@ -1,20 +1,20 @@
 -- A block as bytes come to it, and as it is at the start.
-use Rattle.std.proofs.Common.{◌≡◌, ℕ, zero, suc, ◌+◌, ◌<◌, ◌≤◌, Bool, true, false, cond, ltb, List, [], ◌∷◌, ◌++◌, map, length, drop, Some, None, sym, refl, ap, ◌∙◌, subst, inl, inr, arith}
+use Rattle.std.proofs.Common.{◌≡◌, ℕ, ◌+◌, ◌≤◌, Bool, true, false, cond, ltb, List, [], ◌∷◌, ◌++◌, map, length, drop, Some, None, sym, refl, ap, ◌∙◌, subst, inr, arith}
 use Rattle.std.specs.List.{range_with_len, slice_get}
 use Rattle.std.proofs.lemmas.List.{append-nil, drop_all}
-use Rattle.octets.specs.Bytes.{put, at, bytes_of}
+use Rattle.octets.specs.Bytes.{put, bytes_of}
 use Rattle.octets.proofs.Numbers.{length-bytes_of}
 use Rattle.cpu.specs.Core.{Core, fresh}
 use Rattle.cpu.specs.Rv32i.{rv32i}
 use Rattle.model.specs.declared.plan.Task.{Task}
 use Rattle.model.specs.declared.plan.State.TheVariants.{Ready}
-use Rattle.model.specs.World.{Run, Part}
+use Rattle.model.specs.World.{Run}
 use Rattle.model.specs.Tick.{hearing, with_heard, new_runs}
 use Rattle.memory.specs.Frames.{memory_of, frame, Mapped}
 use Rattle.memory.proofs.Frames.{memory_put_below, frame_put_other, mapped_put}
 use Rattle.tasks.specs.Records.{run_at, task_at, runs_in, tasks_in}
 use Rattle.tasks.specs.Unheard.{heard_in}
-use Rattle.partition.specs.Block.{count_of, over, runs_of, tasks_of, part_of, Own, TableKept, CountOnly}
+use Rattle.partition.specs.Block.{count_of, over, runs_of, tasks_of, part_of, TableKept, CountOnly}
 use Rattle.partition.proofs.Owns.{one_run, one_task}
 use Rattle.partition.proofs.Lent.{mapped_room}
 

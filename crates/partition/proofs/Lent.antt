@@ -1,10 +1,10 @@
 -- A block one of whose control frames was lent to be written.
-use Rattle.std.proofs.Common.{◌≡◌, ℕ, ◌+◌, ◌*◌, ◌<◌, ◌≤◌, List, length, sym, refl, ap, ◌∙◌, subst, inl, inr, arith}
+use Rattle.std.proofs.Common.{◌≡◌, ℕ, ◌≤◌, List, length, sym, ap, ◌∙◌, subst, inl, inr, arith}
 use borrow.Rule.Slice.PartMut.{put_mid}
 use Rattle.octets.specs.Bytes.{put, at}
-use Rattle.octets.proofs.Puts.{put_is, length-put}
-use Rattle.memory.specs.Frames.{memory_of, control_of, frame, pages_of, Mapped}
-use Rattle.memory.proofs.Frames.{at-frame, memory_put_below, frame_put_other, frame_put-whole, frame_kept, mapped_put, mapped_kept}
+use Rattle.octets.proofs.Puts.{put_is}
+use Rattle.memory.specs.Frames.{memory_of, frame, Mapped}
+use Rattle.memory.proofs.Frames.{at-frame, memory_put_below, frame_put_other, frame_put-whole, mapped_put}
 use Rattle.partition.specs.Block.{count_of, TableOnly, TableKept}
 
 -- How many tasks there are is said in frame 4.

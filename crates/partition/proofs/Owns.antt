@@ -1,22 +1,20 @@
 -- A partition with one task: looking at it, ticks in which it is not ready, and ticks in which it goes.
-use Rattle.std.proofs.Common.{◌≡◌, ℕ, zero, suc, ◌+◌, ◌*◌, ◌<◌, ◌≤◌, Bool, true, false, cond, ◌&&◌, leb, List, [], ◌∷◌, ◌++◌, map, length, get_or, Some, None, Option, sym, refl, ap, ◌∙◌, append_assoc, arith}
-use Rattle.std.specs.List.{range_with_len, flat_map}
+use Rattle.std.proofs.Common.{◌≡◌, ℕ, zero, suc, ◌+◌, ◌*◌, ◌<◌, ◌≤◌, Bool, true, false, cond, ◌&&◌, leb, List, [], ◌∷◌, ◌++◌, map, length, None, sym, refl, ap, ◌∙◌, append_assoc, arith}
+use Rattle.std.specs.List.{range_with_len}
 use Rattle.std.proofs.lemmas.List.{append-nil, length-append}
-use Rattle.octets.specs.Bytes.{put}
 use Rattle.cpu.specs.Core.{Core}
 use Rattle.cpu.specs.Rv32i.{rv32i}
 use Rattle.model.specs.declared.plan.Task.{Task}
 use Rattle.model.specs.declared.plan.State.{State}
 use Rattle.model.specs.declared.plan.State.TheVariants.{Ready, Waiting, Stopped}
-use Rattle.model.specs.World.{Run, Part, no_task}
+use Rattle.model.specs.World.{Run}
 use Rattle.model.specs.Tick.{is_ready, is_waiting, better, first_ready, looked, checked, woken, with_tasks, update, goes_on}
-use Rattle.memory.specs.Frames.{memory_of, frame, Mapped}
+use Rattle.memory.specs.Frames.{memory_of, frame}
 use Rattle.tasks.specs.Records.{run_at, task_at, runs_in, tasks_in}
 use Rattle.tasks.specs.Unheard.{heard_in}
-use Rattle.partition.specs.declared.came.End.{End}
-use Rattle.partition.specs.Block.{count_of, over, runs_of, tasks_of, part_of, Own, TableOnly, TableKept}
+use Rattle.partition.specs.Block.{count_of, over, runs_of, tasks_of, part_of, Own, TableOnly}
 use Rattle.partition.specs.Stretch.{part_ticks, looked_ticks, Busy}
-use Rattle.partition.specs.Shown.{entry_bytes, Ran}
+use Rattle.partition.specs.Shown.{Ran}
 use Rattle.partition.specs.declared.came.Burst.{Burst}
 use Rattle.partition.specs.Steps.{ended_by, Bursted}
 use Rattle.partition.proofs.Stretch.{part_ticks_add, idle_ticks, idle_looked, look_first}

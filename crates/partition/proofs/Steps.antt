@@ -1,12 +1,10 @@
 -- What instructions and calls come to over a block.
-use Rattle.std.proofs.Common.{◌≡◌, ℕ, ◌+◌, ◌-◌, ◌%◌, ◌<◌, ◌≤◌, Bool, true, false, cond, leb, List, [], ◌∷◌, ◌++◌, length, drop, Some, None, Option, sym, refl, ap, ◌∙◌, arith}
-use Rattle.octets.specs.Bytes.{put, at, bytes_of}
+use Rattle.std.proofs.Common.{◌≡◌, ℕ, ◌-◌, ◌%◌, cond, List, [], ◌∷◌, ◌++◌, length, drop, Some, None, Option, sym, refl, ap, ◌∙◌, arith}
+use Rattle.octets.specs.Bytes.{put, at}
 use Rattle.cpu.specs.Act.{quiet, store, wrong}
-use Rattle.cpu.specs.declared.effect.Effect.TheVariants.{Sets, Goes as GoesTo, Loads, Stores, Calls, Wrong}
+use Rattle.cpu.specs.declared.effect.Effect.TheVariants.{Calls}
 use Rattle.cpu.specs.Effects.{inside}
-use Rattle.decode.specs.declared.instruction.StoreKind.{StoreKind}
-use Rattle.cpu.specs.Meaning.{store_bytes}
-use Rattle.cpu.specs.Rv32i.{effect_fetched, going_on}
+use Rattle.cpu.specs.Rv32i.{effect_fetched}
 use Rattle.memory.specs.Frames.{control_of, Mapped}
 use Rattle.memory.proofs.Frames.{length-memory, frame_kept}
 use Rattle.partition.proofs.Lent.{count_frame}
@@ -19,7 +17,7 @@ use Rattle.cpu.specs.declared.effect.Effect.{Effect}
 use Rattle.cpu.specs.Core.{Core}
 use Rattle.cpu.specs.Rv32i.{act, performed, effect_at, answered}
 use Rattle.cpu.specs.Rv32i.{called as call_by}
-use Rattle.model.specs.World.{Run, Part}
+use Rattle.model.specs.World.{Run}
 use Rattle.model.specs.Tick.{called, acted, showing, with_heard, with_memory, with_tasks, refused, sends, takes, goes_on, waits, stops, changing, first_heard, update}
 use Rattle.memory.specs.Frames.{memory_of, frame}
 use Rattle.tasks.specs.Unheard.{heard_in}

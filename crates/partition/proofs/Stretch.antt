@@ -1,10 +1,10 @@
 -- Own ticks in a row: one after the other, ticks in which nobody is ready, and ticks of one task that goes first.
-use Rattle.std.proofs.Common.{◌≡◌, ℕ, zero, suc, ◌+◌, ◌-◌, ◌<◌, ◌≤◌, Bool, true, false, cond, List, [], ◌∷◌, ◌++◌, length, get_or, drop, Some, None, Option, sym, refl, ap, ◌∙◌, add-zero, add-suc, suc-add, zero-add, arith}
+use Rattle.std.proofs.Common.{◌≡◌, ℕ, zero, suc, ◌+◌, ◌<◌, List, [], ◌∷◌, length, drop, Some, None, sym, refl, ap, ◌∙◌, add-zero, suc-add, zero-add, arith}
 use Rattle.cpu.specs.Core.{Core}
 use Rattle.cpu.specs.Rv32i.{rv32i, act}
 use Rattle.model.specs.declared.plan.Task.{Task}
 use Rattle.model.specs.World.{Run, Part}
-use Rattle.model.specs.Tick.{part_tick, looked, first_ready, with_tasks, update, goes_on, changing, acted, instruction, does}
+use Rattle.model.specs.Tick.{part_tick, looked, first_ready, with_tasks, update, goes_on, acted, instruction, does}
 use Rattle.partition.specs.Stretch.{none_seen, part_ticks, looked_ticks, Busy}
 
 pub part_ticks_add :

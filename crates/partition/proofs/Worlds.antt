@@ -1,5 +1,5 @@
 -- Ticks of the whole computer in which nothing comes from outside, and all of which are one partition's, or the system's.
-use Rattle.std.proofs.Common.{◌≡◌, ℕ, zero, suc, ◌+◌, ◌<◌, ◌≤◌, Bool, true, false, cond, ◌&&◌, ◌||◌, eqb, ltb, List, [], ◌∷◌, ◌++◌, length, get_or, set, replicate, Some, None, Option, sym, refl, ap, ◌∙◌, add-zero, arith, length-set, get_or-set_same, set-set}
+use Rattle.std.proofs.Common.{◌≡◌, ℕ, zero, suc, ◌+◌, ◌<◌, cond, ◌&&◌, ◌||◌, eqb, List, [], ◌∷◌, length, get_or, set, replicate, Some, None, Option, sym, refl, ap, ◌∙◌, add-zero, arith, length-set, get_or-set_same, set-set}
 use lib.Seq.{set-get_or}
 use Rattle.std.proofs.lemmas.Bool.{le-ltb}
 use Rattle.cpu.specs.Core.{Core}
@@ -8,11 +8,10 @@ use Rattle.cpu.specs.declared.call.Call.{Call}
 use Rattle.cpu.specs.declared.call.Call.TheVariants.{Show, Wait, Clock, Send, Take, Hear, Unknown}
 use Rattle.cpu.specs.declared.call.Answer.{Answer}
 use Rattle.cpu.specs.Rv32i.{rv32i, act}
-use Rattle.model.specs.declared.plan.Channel.{Channel}
 use Rattle.model.specs.declared.plan.Task.{Task}
 use Rattle.model.specs.declared.plan.Arrival.{Arrival}
 use Rattle.model.specs.World.{Plan, Run, Part, World, no_part, part, turn, channel, messages}
-use Rattle.model.specs.Tick.{Change, none, Sight, seen, part_tick, instruction, does, acted, called, sends, takes, refused, first_ready, looked, with_tasks, applied, changed, came, later, work, tick, ticks}
+use Rattle.model.specs.Tick.{none, seen, part_tick, instruction, does, acted, called, sends, takes, refused, applied, changed, came, later, work, tick, ticks}
 use Rattle.partition.specs.Stretch.{none_seen, part_ticks}
 
 -- Where there are no channels none is seen.

@@ -1,11 +1,11 @@
 -- What one instruction, and a burst of instructions of one task, come to. Assumes nothing: these are definitions.
-use Rattle.std.specs.Prelude.{◌≡◌, ℕ, ◌+◌, ◌*◌, ◌<◌, ◌≤◌, List, [], ◌∷◌, ◌++◌, length}
+use Rattle.std.specs.Prelude.{◌≡◌, ℕ, ◌+◌, ◌*◌, ◌≤◌, List, [], ◌∷◌, ◌++◌, length}
 use Rattle.std.specs.List.{flat_map}
 use Rattle.octets.specs.Bytes.{put}
 use Rattle.cpu.specs.Core.{Core}
 use Rattle.cpu.specs.Rv32i.{act}
 use Rattle.model.specs.declared.plan.Task.{Task}
-use Rattle.model.specs.World.{Run, Part}
+use Rattle.model.specs.World.{Run}
 use Rattle.model.specs.Tick.{acted, update, goes_on, waits, stops}
 use Rattle.memory.specs.Frames.{memory_of}
 use Rattle.partition.specs.declared.came.Came.{Came}

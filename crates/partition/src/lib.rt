@@ -1,4 +1,6 @@
 //! A partition's own ticks.
+#![tactic(auto)]
+
 pub mod arrive;
 mod burst;
 mod came;

@@ -1,12 +1,12 @@
 -- Rows, byte by byte.
-use Rattle.std.proofs.Common.{◌≡◌, ℕ, ◌+◌, ◌-◌, ◌^◌, ◌<◌, ◌≤◌, Bool, true, false, cond, ltb, List, [], ◌∷◌, length, get_or, take, is_ok, IfOk, Ok, Err, Result, sym, refl, ap, ◌∙◌, arith}
+use Rattle.std.proofs.Common.{◌≡◌, ℕ, ◌+◌, ◌^◌, ◌<◌, true, false, ltb, List, length, get_or, take, is_ok, IfOk, Ok, Err, Result, sym, refl, ap, ◌∙◌, arith}
 use Rattle.std.specs.List.{slice_get}
 use Rattle.std.specs.Result.{result_ok}
-use Rattle.std.proofs.lemmas.Option.{slice_get-get_or, slice_get_past}
+use Rattle.std.proofs.lemmas.Option.{slice_get-get_or}
 use Rattle.std.proofs.lemmas.Bool.{both_ways, cond-true, lt-ltb}
 use Rattle.codec.specs.Codec.{Outcome, got, refused, follow, map_out, Codec, times, chain}
 use Rattle.codec.proofs.Outcomes.{got_value, got_place, map-got, chain_got}
-use Rattle.codec.proofs.Steps.{map-map, map-follow}
+use Rattle.codec.proofs.Steps.{map-map}
 use Rattle.codec.proofs.Sizes.{number_sized, times_length, times_item}
 use Rattle.model.specs.declared.plan.Arrival.{Arrival}
 use Rattle.plan.specs.declared.refusal.Refusal.{Refusal}

@@ -1,13 +1,13 @@
 -- What the layout takes for proper is what is in bounds.
-use Rattle.std.proofs.Common.{◌≡◌, ℕ, zero, suc, ◌+◌, ◌-◌, ◌*◌, ◌/◌, ◌<◌, ◌≤◌, List, [], ◌∷◌, map, length, replicate, sym, refl, ap, ◌∙◌, subst, arith}
+use Rattle.std.proofs.Common.{◌≡◌, ℕ, zero, suc, ◌/◌, ◌≤◌, List, [], ◌∷◌, map, length, sym, refl, ap, ◌∙◌, subst, arith}
 use Rattle.std.specs.List.{AllByRecursion as All}
 use Rattle.std.proofs.ByRecursion.{All-map}
-use Rattle.codec.specs.Codec.{Codec, ProperEach, Bytes, times, chain}
+use Rattle.codec.specs.Codec.{Codec, ProperEach, times}
 use Rattle.model.specs.declared.plan.Window.{Window}
 use Rattle.model.specs.declared.plan.Channel.{Channel}
 use Rattle.model.specs.declared.plan.Task.{Task}
-use Rattle.plan.specs.Layout.{Image, Part, header, body, window, channel, task, partition, memory, beside, to_image, from_image, image}
-use Rattle.plan.specs.Bounds.{From, WindowIn, ChannelIn, TaskIn, TasksIn, MemoryIn, InBounds}
+use Rattle.plan.specs.Layout.{Image, Part, window, channel, task, partition, memory, beside, image}
+use Rattle.plan.specs.Bounds.{WindowIn, ChannelIn, TaskIn, TasksIn, MemoryIn, InBounds}
 use Rattle.plan.proofs.Lawfulness.{length-proper, tasks_beside}
 
 all_proper :

@@ -1,5 +1,5 @@
 -- A plan in flat rows, as bytes.
-use Rattle.std.proofs.Common.{◌≡◌, ℕ, suc, ◌+◌, ◌-◌, ◌*◌, ◌/◌, ◌<◌, ◌≤◌, List, [], ◌∷◌, ◌++◌, length, get_or, take, drop, replicate, sym, refl, ap, ◌∙◌, arith}
+use Rattle.std.proofs.Common.{◌≡◌, ℕ, suc, ◌+◌, ◌*◌, ◌/◌, ◌<◌, ◌≤◌, List, [], ◌∷◌, ◌++◌, length, get_or, take, drop, sym, refl, ap, ◌∙◌, arith}
 use Rattle.std.specs.List.{flat_map}
 use Rattle.std.proofs.lemmas.List.{append_assoc, length-append, length-take, length-drop, take-append-drop, nil_from_length, drop_more, drop_all}
 use Rattle.octets.specs.Bytes.{put}
@@ -9,7 +9,7 @@ use Rattle.model.specs.declared.plan.Channel.{Channel}
 use Rattle.model.specs.declared.plan.Task.{Task}
 use Rattle.plan.specs.declared.head.Header.{Header}
 use Rattle.plan.specs.declared.head.PartHead.{PartHead}
-use Rattle.plan.specs.Layout.{Image, Part, header, window, channel, task, partition, memory, beside, from_image, image, write_plan}
+use Rattle.plan.specs.Layout.{header, window, channel, task, partition, memory, beside, image, write_plan}
 use Rattle.plan.specs.Drafts.{window_bytes, channel_bytes, task_bytes, head_bytes, parts_bytes}
 use Rattle.plan.specs.Flat.{tasks_said, pages_said, cut_tasks, cut_memories, image_from}
 use Rattle.plan.proofs.Writing.{behind, length_joined, window_bytes_lem, channel_bytes_lem, task_bytes_lem, head_bytes_lem, header_bytes}

@@ -1,5 +1,5 @@
 -- What was taken, and what was not.
-use Rattle.std.proofs.Common.{◌≡◌, ℕ, Bool, true, false, List, length, is_ok, Ok, Err, Result, sym, refl, ap, ◌∙◌}
+use Rattle.std.proofs.Common.{◌≡◌, ℕ, Bool, true, List, is_ok, Ok, Err, Result, sym, refl, ap, ◌∙◌}
 use Rattle.codec.specs.Codec.{Outcome, got, refused, Bytes}
 use Rattle.codec.proofs.Outcomes.{got_value}
 use Rattle.codec.proofs.Laws.{whole_there, whole_back}

@@ -1,5 +1,5 @@
 -- Every plan in bounds, in flat rows; and what was written is read.
-use Rattle.std.proofs.Common.{◌≡◌, ℕ, suc, ◌+◌, ◌*◌, ◌/◌, ◌<◌, ◌≤◌, List, [], ◌∷◌, ◌++◌, length, take, drop, Ok, Err, Result, sym, refl, ap, ◌∙◌, arith}
+use Rattle.std.proofs.Common.{◌≡◌, ℕ, suc, ◌+◌, ◌*◌, ◌/◌, ◌≤◌, List, [], ◌∷◌, ◌++◌, length, take, drop, sym, refl, ap, ◌∙◌, arith}
 use Rattle.std.specs.List.{flat_map, AllByRecursion as All}
 use Rattle.std.proofs.lemmas.List.{take_at, drop_at, length-append}
 use Rattle.octets.specs.Bytes.{put}
@@ -8,8 +8,8 @@ use Rattle.model.specs.declared.plan.Task.{Task}
 use Rattle.plan.specs.declared.head.PartHead.{PartHead}
 use Rattle.plan.specs.Layout.{Image, read_plan, write_plan}
 use Rattle.plan.specs.Bounds.{InBounds, TasksIn, MemoryIn}
-use Rattle.plan.specs.Flat.{tasks_said, pages_said, cut_tasks, cut_memories, image_from}
-use Rattle.plan.specs.Promise.{Drafts, DraftsAll}
+use Rattle.plan.specs.Flat.{tasks_said, pages_said, cut_tasks, cut_memories}
+use Rattle.plan.specs.Promise.{DraftsAll}
 use Rattle.plan.proofs.Exact.{reads_all}
 
 heads : List (List ℕ) → List (List Task) → List PartHead

@@ -1,13 +1,11 @@
 -- Each kind of a plan's layout is read as it was written, and written as it was read.
-use Rattle.std.proofs.Common.{◌≡◌, ℕ, zero, suc, ◌+◌, ◌-◌, ◌*◌, ◌/◌, ◌^◌, ◌<◌, ◌≤◌, List, [], ◌∷◌, map, length, replicate, sym, refl, ap, ◌∙◌, arith, lit<}
+use Rattle.std.proofs.Common.{◌≡◌, ℕ, zero, suc, ◌+◌, ◌-◌, ◌*◌, ◌/◌, ◌^◌, ◌<◌, ◌≤◌, List, [], ◌∷◌, map, length, refl, ap, ◌∙◌, arith, lit<}
 use Rattle.std.proofs.lemmas.List.{length-map}
-use Rattle.codec.specs.Codec.{Codec, ProperEach, number, raw, chain, ◌▸◌, each, times, named}
+use Rattle.codec.specs.Codec.{Codec, ProperEach, chain, ◌▸◌, each, times}
 use Rattle.codec.specs.Lawful.{Lawful}
 use Rattle.codec.proofs.Laws.{number_law, raw_law, chain_law, ▸-law, named_law, each_law, times_law}
-use Rattle.model.specs.World.{Plan}
 use Rattle.model.specs.declared.plan.Task.{Task}
 use Rattle.plan.specs.declared.head.Header.{Header}
-use Rattle.plan.specs.declared.head.PartHead.{PartHead}
 use Rattle.plan.specs.Layout.{Image, Part, Body, field, name, header, window, channel, task, part_head, partition, memory, body, beside, to_image, from_image, image}
 
 pub field_law : (n lo hi : ℕ) → hi < 256 ^ n → Lawful (field n lo hi)

@@ -1,11 +1,11 @@
 -- Bytes that were taken, part by part.
-use Rattle.std.proofs.Common.{◌≡◌, ℕ, zero, suc, ◌+◌, ◌-◌, ◌*◌, ◌/◌, ◌<◌, ◌≤◌, Bool, true, false, cond, eqb, leb, List, [], ◌∷◌, map, length, get_or, take, drop, is_ok, Some, None, Ok, Err, Option, Result, sym, refl, ap, ◌∙◌, arith}
+use Rattle.std.proofs.Common.{◌≡◌, ℕ, zero, suc, ◌+◌, ◌-◌, ◌*◌, ◌/◌, ◌<◌, ◌≤◌, true, false, eqb, leb, List, [], ◌∷◌, map, length, get_or, take, drop, is_ok, Some, None, Ok, Err, Result, sym, refl, ap, ◌∙◌, arith}
 use Rattle.std.specs.List.{between, slice_get}
 use Rattle.std.specs.Result.{result_ok}
 use Rattle.std.proofs.lemmas.Bool.{leb-true, eqb-true, both_ways}
 use Rattle.std.proofs.lemmas.Option.{slice_get-get_or, slice_get_past}
-use Rattle.std.proofs.lemmas.List.{length-map, length-take, length-drop, get_or-map, get_or_past}
-use Rattle.codec.specs.Codec.{Outcome, got, refused, follow, map_out, Codec, number, read_each, each, times, chain, ◌▸◌, named, whole}
+use Rattle.std.proofs.lemmas.List.{length-map, length-take, length-drop, get_or-map}
+use Rattle.codec.specs.Codec.{Outcome, got, refused, follow, map_out, Codec, read_each, each, times, chain, ◌▸◌, whole}
 use Rattle.codec.proofs.Outcomes.{never, got_value, got_place, follow_got, map-got, cond_got, chain_got}
 use Rattle.codec.proofs.Sizes.{Sized, number_sized, chain_sized, named_sized, times_length, times_sized, times_item, times_at, each_length}
 use Rattle.model.specs.declared.plan.Window.{Window}

@@ -2,11 +2,11 @@
 use Rattle.std.proofs.Common.{◌≡◌, ℕ, ◌+◌, ◌-◌, ◌*◌, ◌<◌, ◌≤◌, Bool, true, false, cond, eqb, leb, List, [], ◌∷◌, length, sym, refl, ap, ◌∙◌, ⊎_elim, arith}
 use Rattle.std.specs.List.{between}
 use Rattle.std.proofs.lemmas.Bool.{cases_lt, le-leb, lt-leb, cond-true, cond-false}
-use Rattle.codec.specs.Codec.{Outcome, got, refused, follow, map_out, Codec, read_each, each, times, chain, whole}
+use Rattle.codec.specs.Codec.{Outcome, got, refused, follow, map_out, read_each, each, times, chain, whole}
 use Rattle.codec.proofs.Outcomes.{map-got, map-refused}
 use Rattle.codec.proofs.Steps.{map-follow, follow_map, follow_same, follow_chain, times_step, times_stop, times_done}
 use Rattle.plan.specs.declared.head.Header.{Header}
-use Rattle.plan.specs.Layout.{Image, Part, Body, header, window, channel, partition, memory, body, to_image, image, read_plan}
+use Rattle.plan.specs.Layout.{Part, header, window, channel, partition, memory, body, to_image, image, read_plan}
 use Rattle.plan.specs.Ends.{seen, pages_of, fits}
 
 -- One partition more.

@@ -1,5 +1,5 @@
 -- What is written for a plan that is handed over in flat rows. Assumes nothing: these are definitions.
-use Rattle.std.specs.Prelude.{◌≡◌, ℕ, ◌+◌, ◌*◌, ◌<◌, ◌≤◌, List, [], ◌∷◌, ◌++◌, length, take, drop, Ok, Err, Result}
+use Rattle.std.specs.Prelude.{◌≡◌, ℕ, ◌*◌, ◌<◌, ◌≤◌, List, [], ◌∷◌, ◌++◌, length, take, drop, Ok, Err, Result}
 use Rattle.std.specs.List.{flat_map}
 use Rattle.octets.specs.Bytes.{put}
 use Rattle.model.specs.declared.plan.Window.{Window}

@@ -12,6 +12,8 @@
 //! other bytes get the refusal that the layout's reading gives; that what is written is read as it, and what is read has, written
 //! anew, the same bytes. Uses no heap, and changes nothing that it is lent but what a draft is written to. Does not know what
 //! a plan means when it runs, nor which plans a system can already carry out. Headline: `check`, clauses `value` and `exact`.
+#![tactic(auto)]
+
 pub mod check;
 pub mod draft;
 pub mod extent;

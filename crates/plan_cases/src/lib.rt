@@ -1,5 +1,7 @@
 //! Worked cases of plans and rows in bytes: damaged plans with the refusal's number and place, worked out by hand from the
 //! format; the largest plan and the smallest; each fault of a row.
+#![tactic(auto)]
+
 #[cfg(test)]
 mod tests {
     use plan::check::check as check_plan;

@@ -1,4 +1,6 @@
 //! The text of a plan, as docs/PLAN-TEXT.md has it: from its lines to a typed plan, or to the first fault in them.
+#![tactic(auto)]
+
 mod faults;
 mod lines;
 mod names;

@@ -3,18 +3,17 @@ use Rattle.std.proofs.Common.{◌≡◌, ℕ, zero, suc, ◌+◌, ◌<◌, ◌�
 use Rattle.std.proofs.lemmas.Bool.{cases_eq}
 use Rattle.reference.proofs.Nths.{nth_some_below}
 use Rattle.std.specs.List.{slice_get}
-use Rattle.cpu.specs.Core.{Core}
 use Rattle.cpu.specs.Act.{Machine}
 use Rattle.cpu.specs.Rv32i.{rv32i}
 use Rattle.model.specs.declared.plan.Task.{Task}
 use Rattle.model.specs.declared.plan.Window.{Window}
 use Rattle.model.specs.declared.plan.State.TheVariants.{Ready}
-use Rattle.model.specs.World.{Run, Sent}
+use Rattle.model.specs.World.{Run}
 use Rattle.model.specs.Tick.{new_runs, new_parts, begin}
 use Rattle.reference.specs.declared.part.Partition.{Partition}
 use Rattle.reference.specs.declared.queue.Queue.{Queue}
 use Rattle.reference.specs.Letters.{sents_of}
-use Rattle.reference.specs.Parts.{New, runs_of, tasks_of, heard_of, part_of}
+use Rattle.reference.specs.Parts.{New, tasks_of, part_of}
 use Rattle.reference.specs.Own.{plan_of, plans_of, channels_of}
 use Rattle.reference.specs.View.{plan_in, parts_of, world_of}
 

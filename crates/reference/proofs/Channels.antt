@@ -1,5 +1,5 @@
 -- Sends and takes, from one channel to what the model does.
-use Rattle.std.proofs.Common.{◌≡◌, ℕ, ◌+◌, ◌-◌, ◌%◌, ◌<◌, ◌≤◌, Bool, true, false, cond, ◌&&◌, ◌||◌, eqb, ltb, leb, ◌⊎◌, List, [], ◌∷◌, ◌++◌, map, length, get_or, set, Some, None, Option, sym, refl, ap, ◌∙◌, inl, inr, ⊎_elim, arith}
+use Rattle.std.proofs.Common.{◌≡◌, ℕ, ◌+◌, ◌-◌, ◌%◌, ◌≤◌, Bool, true, false, cond, ◌&&◌, ◌||◌, eqb, ltb, leb, ◌⊎◌, List, [], ◌∷◌, map, length, get_or, set, Some, None, Option, sym, refl, ap, ◌∙◌, inl, inr, ⊎_elim, arith}
 use Rattle.std.specs.List.{between, slice_get}
 use Rattle.std.proofs.lemmas.List.{length-map, map-set}
 use Rattle.std.proofs.lemmas.Bool.{cond-true, cond-false, cases_Bool, and_left, lt-ltb, le-ltb, or_parts, eqb-false}
@@ -8,9 +8,8 @@ use Rattle.cpu.specs.declared.call.Answer.{Answer}
 use Rattle.cpu.specs.declared.call.Answer.TheVariants.{Value, Message}
 use Rattle.cpu.specs.declared.call.Call.TheVariants.{Send, Take}
 use Rattle.cpu.specs.Core.{Core}
-use Rattle.model.specs.declared.plan.Channel.{Channel}
-use Rattle.model.specs.World.{Part, Sent, World, no_channel, channel, messages}
-use Rattle.model.specs.Tick.{Step, Sight, Change, none, becomes, no, changed, changing, goes_on, with_memory, seen, may_send, sending, taking, refused, sends, takes, takes_first, called}
+use Rattle.model.specs.World.{Part, Sent, no_channel, channel, messages}
+use Rattle.model.specs.Tick.{Step, Sight, none, becomes, no, changed, changing, goes_on, with_memory, seen, may_send, sending, taking, refused, sends, takes, takes_first, called}
 use Rattle.reference.specs.declared.queue.Queue.{Queue}
 use Rattle.reference.specs.Letters.{sents_of, sight_of, Exchange, refusing, posting, collecting, collecting_first}
 use Rattle.reference.specs.Own.{plan_of, plans_of, channels_of, seen_of, Exchanged}

@@ -1,12 +1,12 @@
 -- What a send and a take come to, case by case.
-use Rattle.std.proofs.Common.{◌≡◌, ℕ, ◌+◌, ◌-◌, ◌%◌, ◌<◌, ◌≤◌, Bool, true, false, cond, ◌&&◌, ◌||◌, eqb, ltb, leb, List, [], ◌∷◌, ◌++◌, length, sym, refl, ap, ◌∙◌, arith}
+use Rattle.std.proofs.Common.{◌≡◌, ℕ, ◌+◌, ◌-◌, ◌%◌, ◌<◌, ◌≤◌, true, false, cond, ◌&&◌, ◌||◌, eqb, ltb, leb, List, [], ◌∷◌, ◌++◌, length, sym, ap, ◌∙◌}
 use Rattle.std.specs.List.{between}
 use Rattle.std.proofs.lemmas.Bool.{cond-true, cond-false, and_left, and_right, and_from, or_from, or_left, or_right, ne_eqb, eq-eqb, lt-leb, le-leb, le-ltb, lt-ltb}
 use Rattle.octets.specs.Bytes.{put}
 use Rattle.cpu.specs.declared.call.Answer.TheVariants.{Value, Message}
 use Rattle.model.specs.World.{Sent}
 use Rattle.model.specs.Tick.{Sight, may_send, sending, no}
-use Rattle.reference.specs.Letters.{Exchange, refusing, posting, collecting, collecting_first}
+use Rattle.reference.specs.Letters.{refusing, posting, collecting, collecting_first}
 
 module _ (q t : ℕ) (s : Sight) (m : List ℕ) (a n : ℕ) where
   post_refused : (leb (a + n) (length m) && may_send q s n) ≡ false → refusing s m ≡ posting q t s m a n

@@ -1,10 +1,9 @@
 -- Memories one after the other: where each lies, and what a write to one leaves of the others.
 use Rattle.std.proofs.Common.{◌≡◌, ℕ, zero, suc, ◌+◌, ◌-◌, ◌*◌, ◌<◌, ◌≤◌, min, ◌≢◌, ◌⊎◌, List, [], ◌∷◌, ◌++◌, length, get_or, take, drop, set, sym, refl, ap, ◌∙◌, inl, inr, ⊎_elim, le_of_suc-le-suc, not-suc-le-zero, add-zero, add_assoc, suc-add, arith, rules}
 use Rattle.std.specs.List.{between}
-use Rattle.std.proofs.lemmas.List.{places, same_lists, drop-drop, take_all, drop_all, length-take, length-drop, take_at, drop_at, nil_from_length, take-append-drop, get_or_past, get_or-set_same, get_or-set_other}
+use Rattle.std.proofs.lemmas.List.{places, same_lists, drop-drop, length-drop, nil_from_length, take-append-drop, get_or_past, get_or-set_same, get_or-set_other}
 use Rattle.std.proofs.lemmas.Bool.{cases_lt}
 use Rattle.octets.specs.Bytes.{put}
-use Rattle.octets.proofs.Puts.{length-put}
 use Rattle.reference.specs.Memories.{memories_in}
 use Rattle.reference.specs.Place.{place}
 

@@ -1,16 +1,15 @@
 -- A partition's own tick, from what was done to its tasks.
-use Rattle.std.proofs.Common.{◌≡◌, ℕ, zero, suc, ◌≤◌, Bool, true, false, List, [], ◌∷◌, ◌++◌, map, length, drop, Some, None, Option, sym, refl, ap, ◌∙◌, subst, arith, MatchOption}
+use Rattle.std.proofs.Common.{◌≡◌, ℕ, zero, suc, true, List, [], ◌∷◌, ◌++◌, map, drop, Some, None, Option, sym, refl, ap, ◌∙◌, subst, arith, MatchOption}
 use Rattle.std.specs.List.{slice_get}
 use Rattle.std.proofs.lemmas.List.{append-nil, drop_all, length-map}
 use Rattle.cpu.specs.Core.{Core}
 use Rattle.cpu.specs.Rv32i.{rv32i, act}
-use Rattle.model.specs.declared.plan.Task.{Task}
 use Rattle.model.specs.declared.plan.State.{State}
 use Rattle.model.specs.declared.plan.State.TheVariants.{Ready}
-use Rattle.model.specs.World.{Part, Run}
+use Rattle.model.specs.World.{Run}
 use Rattle.model.specs.Promise.{GoesFirst, ReadyAt}
 use Rattle.model.proofs.Priority.{first_ready_lem}
-use Rattle.model.specs.Tick.{Step, Sight, Change, none, changed, changing, with_tasks, update, is_ready, looked, first_ready, does, instruction, part_tick, acted}
+use Rattle.model.specs.Tick.{Step, Sight, none, changed, changing, with_tasks, update, is_ready, looked, first_ready, does, instruction, part_tick, acted}
 use Rattle.reference.specs.declared.part.Partition.{Partition}
 use Rattle.reference.specs.declared.queue.Queue.{Queue}
 use Rattle.reference.specs.declared.task.Running.{Running}

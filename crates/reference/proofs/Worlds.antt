@@ -1,5 +1,5 @@
 -- The world that the program's state stands for, when one of its partitions changes.
-use Rattle.std.proofs.Common.{◌≡◌, ℕ, zero, suc, ◌+◌, ◌%◌, ◌<◌, ◌≤◌, Bool, true, false, cond, ◌&&◌, ◌||◌, eqb, ltb, ◌≢◌, List, [], ◌∷◌, ◌++◌, map, length, get_or, set, Some, None, Option, sym, refl, ap, ◌∙◌, subst, le_of_suc-le-suc, not-suc-le-zero, add-zero, add-suc, suc-add, zero-add, add-one, arith}
+use Rattle.std.proofs.Common.{◌≡◌, ℕ, zero, suc, ◌+◌, ◌%◌, ◌≤◌, Bool, true, false, cond, eqb, ltb, ◌≢◌, List, [], ◌∷◌, ◌++◌, map, length, get_or, set, Some, None, Option, sym, refl, ap, ◌∙◌, subst, add-zero, add-suc, suc-add, zero-add, add-one, arith}
 use Rattle.std.specs.List.{slice_get}
 use Rattle.std.proofs.lemmas.List.{map-set, set_past, get_or_past, append-nil}
 use Rattle.std.proofs.lemmas.Bool.{cond-true, cond-false, ne_eqb, eq-eqb}
@@ -7,12 +7,12 @@ use Rattle.cpu.specs.Core.{Core}
 use Rattle.cpu.specs.Rv32i.{rv32i}
 use Rattle.model.specs.declared.plan.Arrival.{Arrival}
 use Rattle.model.specs.declared.plan.Window.{Window}
-use Rattle.model.specs.World.{Part, World, Sent, Plan, no_part, part, messages, round, turn_in, turn}
-use Rattle.model.specs.Tick.{Step, hearing, with_heard, with_tasks, most_unheard, came, work, applied, part_tick, looked, first_ready, instruction, changed, seen, tick, later}
+use Rattle.model.specs.World.{Part, World, Sent, no_part, part, messages, round, turn_in, turn}
+use Rattle.model.specs.Tick.{hearing, with_heard, with_tasks, most_unheard, came, work, applied, part_tick, looked, first_ready, instruction, changed, seen, tick, later}
 use Rattle.reference.specs.declared.part.Partition.{Partition}
 use Rattle.reference.specs.declared.queue.Queue.{Queue}
 use Rattle.reference.specs.Rows.{held}
-use Rattle.reference.specs.Parts.{run_of, runs_of, task_of, tasks_of, heard_of, part_of}
+use Rattle.reference.specs.Parts.{run_of, runs_of, tasks_of, heard_of, part_of}
 use Rattle.reference.specs.Own.{Did, said, plans_of, channels_of, seen_of}
 use Rattle.reference.specs.View.{plan_in, parts_of, world_of, showing}
 use Rattle.reference.proofs.Nths.{set_same, get_or-map_some}

@@ -4,6 +4,8 @@
 //! row of bytes. Promises: it begins, ticks and runs as the model does at the RV32I core, for every plan that its types can
 //! hold, every state and every row of bytes from outside; a refusal changes nothing. Knows nothing of files and plans in
 //! bytes. Headline: `World::run`, clause `value`.
+#![tactic(auto)]
+
 mod access;
 mod begin;
 mod letter;

@@ -1,5 +1,7 @@
 //! Worked cases of the reference at the edges of deadlines, periods, unheard bytes and messages. Each says what must be
 //! shown, worked out by hand from the rules, and is run.
+#![tactic(auto)]
+
 use model::plan::{Arrival, Channel, Task, Window};
 use reference::part::Partition;
 use reference::queue::Queue;

@@ -1,7 +1,6 @@
 -- What writes of the parts of a record come to for the task.
-use Rattle.std.proofs.Common.{◌≡◌, ℕ, suc, ◌+◌, Bool, true, false, cond, eqb, sym, refl, ap, ◌∙◌, arith}
+use Rattle.std.proofs.Common.{◌≡◌, ℕ, suc, ◌+◌, refl, ap, ◌∙◌, arith}
 use Rattle.cpu.specs.Core.{Core}
-use Rattle.model.specs.declared.plan.State.{State}
 use Rattle.model.specs.declared.plan.State.TheVariants.{Ready, Waiting, Stopped}
 use Rattle.model.specs.World.{Run}
 use Rattle.model.specs.Tick.{goes_on, waits, stops}

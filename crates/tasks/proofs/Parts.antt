@@ -1,12 +1,10 @@
 -- A write into one part of a record changes that part, and no other.
-use Rattle.std.proofs.Common.{◌≡◌, ℕ, ◌+◌, ◌*◌, ◌^◌, ◌<◌, ◌≤◌, ◌⊎◌, List, [], ◌∷◌, map, length, get_or, sym, refl, ap, ◌∙◌, inl, inr, arith, below_more}
+use Rattle.std.proofs.Common.{◌≡◌, ℕ, ◌+◌, ◌*◌, ◌^◌, ◌<◌, ◌≤◌, List, length, get_or, ap, ◌∙◌, inl, inr, arith, below_more}
 use Rattle.octets.specs.Bytes.{put, bytes_of, at}
-use Rattle.cpu.specs.Core.{Core}
 use Rattle.model.specs.declared.plan.Task.{Task}
-use Rattle.model.specs.World.{Run}
 use Rattle.tasks.specs.Records.{core_at, run_at, task_at, state_in, late_in, Others}
 use Rattle.tasks.proofs.Written.{at-put}
-use Rattle.tasks.proofs.Elsewhere.{Outside, outside_none, outside_put, outside_then, outside_wider}
+use Rattle.tasks.proofs.Elsewhere.{Outside, outside_put, outside_then, outside_wider}
 use Rattle.tasks.proofs.Records.{core_is, core_same, run_is, task_is, task_same, others_within, others_then, registers_written}
 
 read_back : (a b : List ℕ) (n k v : ℕ) → b ≡ put a k (bytes_of n v) → k + n ≤ length a → v < 256 ^ n → at n b k ≡ v

@@ -1,9 +1,9 @@
 -- What is read after a write: at its place what was written, and elsewhere what was there.
-use Rattle.std.proofs.Common.{◌≡◌, ℕ, zero, suc, ◌+◌, ◌^◌, ◌<◌, ◌≤◌, ◌⊎◌, List, [], ◌∷◌, map, length, get_or, set, sym, refl, ap, ◌∙◌, inl, inr, add-zero, zero-add, arith}
+use Rattle.std.proofs.Common.{◌≡◌, ℕ, zero, suc, ◌+◌, ◌^◌, ◌<◌, ◌≤◌, ◌⊎◌, List, [], ◌∷◌, map, length, set, refl, ap, ◌∙◌, inl, arith}
 use Rattle.std.specs.List.{range_with_len}
 use Rattle.octets.specs.Bytes.{put, number, bytes_of, at}
 use Rattle.octets.proofs.Numbers.{number-bytes_of, length-bytes_of}
-use Rattle.octets.proofs.Puts.{between_put, between-put_other, length-put, set-put}
+use Rattle.octets.proofs.Puts.{between_put, between-put_other, set-put}
 
 pub at-put : (n : ℕ) (xs : List ℕ) (k v : ℕ) → k + n ≤ length xs → v < 256 ^ n → at n (put xs k (bytes_of n v)) k ≡ v
 unfolding at

@@ -5,6 +5,8 @@
 //! task, as the bytes tell it, what the abstract computer does to it, and leaves the other tasks and all plans as they
 //! are. Knows nothing of memory, of windows, of other partitions, nor of which task goes first. Headline: `table::look`,
 //! clause `run`.
+#![tactic(auto)]
+
 mod field;
 pub mod ring;
 pub mod table;

@@ -1,4 +1,6 @@
 //! The model as a program to be run: prints what each partition shows, and when.
+#![tactic(auto)]
+
 use files::Outcome;
 use plan::check::check;
 use plan::refusal::Refusal;
@@ -161,5 +163,9 @@ fn go(rt: &HostRuntime) -> anyhow::Result<bool> {
 
 fn main(rt: HostRuntime) -> anyhow::Result<ExitCode> {
     let done = go(&rt)?;
-    if done { Ok(ExitCode::SUCCESS) } else { Ok(ExitCode::FAILURE) }
+    if done {
+        Ok(ExitCode::SUCCESS)
+    } else {
+        Ok(ExitCode::FAILURE)
+    }
 }

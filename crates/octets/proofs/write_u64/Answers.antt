@@ -1,4 +1,4 @@
-use Rattle.std.proofs.Common.{◌≡◌, ◌+◌, ◌/◌, ◌%◌, sym, ap, ◌∙◌, arith}
+use Rattle.std.proofs.Common.{◌+◌, ◌/◌, ◌%◌, sym, ap, ◌∙◌, arith}
 use Rattle.octets.specs.Bytes.{put, bytes_of}
 use Rattle.octets.proofs.Numbers.{bytes_of_8, length-bytes_of}
 use Rattle.octets.proofs.Puts.{put-behind}

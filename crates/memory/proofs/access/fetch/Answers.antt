@@ -1,4 +1,3 @@
-use Rattle.std.proofs.Common.{arith}
 use Rattle.decode.specs.declared.instruction.LoadKind.TheVariants.{Lw}
 use Rattle.memory.proofs.Walks.{load_there, read_there, fetch_odd, fetch_word}
 use Rattle.memory.specs.Frames.{memory_of}

@@ -1,4 +1,4 @@
-use Rattle.std.proofs.Common.{◌≡◌, ◌*◌, get_or, sym, ap, ◌∙◌, arith}
+use Rattle.std.proofs.Common.{◌≡◌, ◌*◌, get_or, sym, ap, arith}
 use Rattle.mkplan.proofs.Rooms.{room_at, room_end}
 use Rattle.mkplan.proofs.layout.put_memories.Goals as goal
 

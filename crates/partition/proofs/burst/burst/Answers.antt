@@ -1,7 +1,5 @@
-use Rattle.std.proofs.Common.{◌≡◌, ◌+◌, [], sym, refl, ap, ◌∙◌, arith}
+use Rattle.std.proofs.Common.{◌+◌, sym, ap, ◌∙◌, arith}
 use Rattle.octets.specs.Bytes.{put}
-use Rattle.cpu.specs.Held.{core_of}
-use Rattle.std.specs.List.{flat_map}
 use Rattle.std.proofs.lemmas.List.{append-nil}
 use Rattle.partition.specs.declared.came.Came.TheVariants.{Goes, Shows, Waits, Stops}
 use Rattle.partition.specs.Shown.{entry_bytes}

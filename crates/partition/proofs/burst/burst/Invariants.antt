@@ -1,6 +1,4 @@
-use Rattle.std.proofs.Common.{◌≡◌, ◌≤◌, length}
 use Rattle.cpu.specs.Held.{core_of}
-use Rattle.memory.specs.Frames.{Mapped}
 use Rattle.partition.specs.declared.came.End.TheVariants.{Ready}
 use Rattle.partition.specs.Steps.{Bursted}
 use Rattle.partition.proofs.burst.burst.Given as goal

@@ -1,6 +1,6 @@
-use Rattle.std.proofs.Common.{◌≡◌, ◌%◌, length, sym, refl, ap, ◌∙◌, arith}
+use Rattle.std.proofs.Common.{◌≡◌, length, sym, ap, ◌∙◌, arith}
 use Rattle.cpu.specs.declared.call.Answer.TheVariants.{Value}
-use Rattle.memory.specs.Frames.{frame, memory_of}
+use Rattle.memory.specs.Frames.{frame}
 use Rattle.tasks.specs.Unheard.{heard_in}
 use Rattle.memory.proofs.Frames.{length-frame}
 use Rattle.partition.proofs.Lent.{mapped_room, ring_kept, ring_memory, ring_lent}

@@ -1,5 +1,4 @@
 use Rattle.std.proofs.Common.{◌≡◌, length, sym, ap, ◌∙◌, subst, arith}
-use Rattle.octets.specs.Bytes.{put}
 use Rattle.memory.specs.Frames.{memory_of, Mapped}
 use Rattle.memory.proofs.Frames.{memory_put_above, mapped_put, length-memory}
 use Rattle.partition.proofs.Lays.{put_all}

@@ -1,5 +1,4 @@
-use Rattle.std.proofs.Common.{◌≡◌, ap, ◌∙◌, arith}
-use Rattle.memory.specs.Frames.{memory_of, frame}
+use Rattle.std.proofs.Common.{ap, ◌∙◌, arith}
 use Rattle.tasks.specs.Records.{run_at, task_at}
 use Rattle.tasks.specs.Unheard.{heard_in}
 use Rattle.plan.specs.Views.{memory_of as memoryIn, tasks_of as tasks_in}

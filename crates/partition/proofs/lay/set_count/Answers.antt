@@ -1,5 +1,5 @@
-use Rattle.std.proofs.Common.{◌≡◌, ap, ◌∙◌, arith}
-use Rattle.octets.specs.Bytes.{at, bytes_of, put, number}
+use Rattle.std.proofs.Common.{ap, ◌∙◌, arith}
+use Rattle.octets.specs.Bytes.{at, bytes_of, number}
 use Rattle.octets.proofs.Numbers.{length-bytes_of, number-bytes_of}
 use Rattle.octets.proofs.Puts.{between_put}
 use Rattle.partition.specs.Block.{count_of}

@@ -1,8 +1,8 @@
-use Rattle.std.proofs.Common.{◌≡◌, ◌+◌, ◌-◌, true, length, sym, ap, ◌∙◌, arith}
+use Rattle.std.proofs.Common.{◌+◌, sym, ap, ◌∙◌, arith}
 use Rattle.cpu.specs.Held.{core_of}
 use Rattle.model.specs.Tick.{is_ready}
 use Rattle.memory.specs.Frames.{frame}
-use Rattle.tasks.specs.Records.{run_at, task_at}
+use Rattle.tasks.specs.Records.{run_at}
 use Rattle.partition.proofs.Owns.{ran_idle, ran_busy}
 use Rattle.partition.proofs.own.bout.Goals as goal
 

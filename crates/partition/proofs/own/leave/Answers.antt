@@ -1,4 +1,4 @@
-use Rattle.std.proofs.Common.{◌≡◌, ap, ◌∙◌}
+use Rattle.std.proofs.Common.{ap, ◌∙◌}
 use Rattle.model.specs.Tick.{is_ready, goes_on}
 use Rattle.partition.proofs.own.leave.Goals as goal
 

@@ -1,5 +1,4 @@
-use Rattle.std.proofs.Common.{◌≡◌, ◌+◌, ◌-◌, sym, ap, ◌∙◌, arith}
-use Rattle.partition.specs.Block.{count_of}
+use Rattle.std.proofs.Common.{arith}
 use Rattle.partition.proofs.Owns.{ran_none, ran_nobody, ran_then}
 use Rattle.partition.proofs.own.own_ticks.Goals as goal
 

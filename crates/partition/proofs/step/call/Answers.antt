@@ -1,4 +1,4 @@
-use Rattle.std.proofs.Common.{◌≡◌, ◌%◌, length, sym, refl, ap, ◌∙◌, arith}
+use Rattle.std.proofs.Common.{sym, ap, ◌∙◌}
 use Rattle.cpu.specs.Held.{core_of}
 use Rattle.cpu.specs.Rv32i.{answered}
 use Rattle.partition.proofs.Steps.{shows, waiting, clocks, sent, taken, unknown, hears, kept_self}

@@ -1,4 +1,4 @@
-use Rattle.std.proofs.Common.{ℕ, ◌<◌, arith}
+use Rattle.std.proofs.Common.{arith}
 use Rattle.codec.specs.Codec.{Bytes}
 use Rattle.plan.proofs.Exact.{taken_is, exactly, says}
 use Rattle.plan.proofs.check.check.Goals as goal

@@ -1,4 +1,4 @@
-use Rattle.std.proofs.Common.{◌≡◌, ◌+◌, ◌-◌, ◌<◌, ◌≤◌, sym, ap, ◌∙◌, arith}
+use Rattle.std.proofs.Common.{◌≡◌, ◌+◌, ◌-◌, sym, ap, ◌∙◌, arith}
 use Rattle.codec.specs.Codec.{times}
 use Rattle.codec.proofs.Steps.{times_step, times_stop, times_done}
 use Rattle.std.proofs.lemmas.Result.{err_from_is_err_and}

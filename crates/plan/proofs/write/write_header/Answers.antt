@@ -1,4 +1,4 @@
-use Rattle.std.proofs.Common.{◌+◌, ◌++◌, arith}
+use Rattle.std.proofs.Common.{◌++◌, arith}
 use Rattle.octets.specs.Bytes.{bytes_of}
 use Rattle.octets.proofs.Numbers.{length-bytes_of}
 use Rattle.plan.proofs.Writing.{behind}

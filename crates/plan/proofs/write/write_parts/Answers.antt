@@ -1,5 +1,5 @@
 use Rattle.std.proofs.Common.{◌+◌, ◌-◌, drop, sym, refl, ◌∙◌, arith}
-use Rattle.std.proofs.lemmas.List.{length-take, length-drop}
+use Rattle.std.proofs.lemmas.List.{length-take}
 use Rattle.plan.proofs.Writing.{said_step, part_step, parts_end}
 use Rattle.plan.proofs.write.write_parts.Goals as goal
 

@@ -1,4 +1,4 @@
-use Rattle.std.proofs.Common.{◌≡◌, ◌+◌, ◌-◌, ◌*◌, ◌≤◌, length, drop}
+use Rattle.std.proofs.Common.{◌≡◌, ◌+◌, ◌*◌, length, drop}
 use Rattle.octets.specs.Bytes.{put}
 use Rattle.plan.specs.Drafts.{parts_bytes}
 use Rattle.plan.specs.Flat.{tasks_said}

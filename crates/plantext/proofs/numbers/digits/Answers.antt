@@ -1,4 +1,4 @@
-use Rattle.std.proofs.Common.{◌≡◌, ◌+◌, ◌*◌, ◌<◌, ◌≤◌, min, false, cond, get_or, drop, Some, None, sym, refl, ap, ◌∙◌, arith}
+use Rattle.std.proofs.Common.{◌≡◌, ◌+◌, ◌*◌, min, false, cond, get_or, drop, Some, None, sym, ap, ◌∙◌, arith}
 use native.Mathlib.Nat.{min-eq_left, min-le_right}
 use Rattle.std.specs.Char.{digit_value}
 use Rattle.plantext.specs.Numerals.{says, capped}

@@ -1,4 +1,3 @@
-use Rattle.std.proofs.Common.{arith}
 use Rattle.reference.proofs.Accesses.{fetch_odd, fetch_outside, fetch_word}
 use Rattle.reference.proofs.access.fetch.Goals.{then-pc-ne0-via-then-pc-ne0, then-pc-ne0-via-else-pc-ne0+then-k-memory}
 use Rattle.reference.proofs.access.fetch.Goals as goal

@@ -1,4 +1,4 @@
-use Rattle.std.proofs.Common.{◌≡◌, ℕ, ◌<◌, [], map, Some}
+use Rattle.std.proofs.Common.{◌≡◌, ℕ, ◌<◌, [], Some}
 use Rattle.std.specs.List.{slice_get}
 use Rattle.reference.specs.declared.queue.Queue.{Queue}
 use Rattle.reference.specs.Letters.{sents_of}

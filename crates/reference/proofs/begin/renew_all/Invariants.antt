@@ -1,4 +1,4 @@
-use Rattle.std.proofs.Common.{◌≡◌, ℕ, ◌<◌, [], map, Some}
+use Rattle.std.proofs.Common.{◌≡◌, ℕ, ◌<◌, map, Some}
 use Rattle.std.specs.List.{slice_get}
 use Rattle.reference.specs.declared.part.Partition.{Partition}
 use Rattle.reference.specs.Parts.{New, tasks_of}

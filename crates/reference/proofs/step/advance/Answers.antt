@@ -1,6 +1,6 @@
-use Rattle.std.proofs.Common.{◌≡◌, map, Some, None, sym, refl, ap, ◌∙◌}
+use Rattle.std.proofs.Common.{Some, None, sym, refl, ap, ◌∙◌}
 use Rattle.model.specs.Tick.{work}
-use Rattle.reference.specs.Own.{said, channels_of}
+use Rattle.reference.specs.Own.{said}
 use Rattle.reference.specs.View.{world_of, after, showing}
 use Rattle.reference.proofs.Worlds.{ticked, showing_none}
 use Rattle.reference.proofs.step.advance.Goals as goal

@@ -1,4 +1,4 @@
-use Rattle.std.proofs.Common.{◌≡◌, map, get_or, sym, refl, ap, ◌∙◌}
+use Rattle.std.proofs.Common.{map, get_or, refl}
 use Rattle.std.proofs.lemmas.Option.{slice_get-get_or}
 use Rattle.reference.specs.Rows.{held}
 use Rattle.reference.specs.Parts.{tasks_of, task_of}

@@ -1,6 +1,5 @@
-use Rattle.std.proofs.Common.{◌≡◌, ◌+◌, get_or, drop, sym, ap, ◌∙◌, arith}
+use Rattle.std.proofs.Common.{◌+◌, drop, sym, ap, ◌∙◌}
 use Rattle.std.proofs.lemmas.List.{drop_more, drop_all}
-use Rattle.cpu.specs.Core.{Core}
 use Rattle.model.specs.Tick.{came}
 use Rattle.reference.proofs.Worlds.{at}
 use Rattle.reference.proofs.step.arrivals.Goals as goal

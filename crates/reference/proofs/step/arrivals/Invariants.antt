@@ -1,4 +1,4 @@
-use Rattle.std.proofs.Common.{◌≡◌, ℕ, List, map, length, drop}
+use Rattle.std.proofs.Common.{◌≡◌, ℕ, List, map, drop}
 use Rattle.model.specs.World.{Sent}
 use Rattle.model.specs.Tick.{came}
 use Rattle.reference.specs.Parts.{tasks_of}

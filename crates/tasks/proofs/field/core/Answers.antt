@@ -1,4 +1,4 @@
-use Rattle.std.proofs.Common.{◌≡◌, ◌+◌, ◌*◌, ◌<◌, length, sym, refl, ap, ◌∙◌, arith}
+use Rattle.std.proofs.Common.{◌+◌, ◌*◌, sym, refl, ◌∙◌, arith}
 use Rattle.octets.specs.Bytes.{at}
 use Rattle.std.proofs.lemmas.List.{length-set}
 use Rattle.tasks.specs.Records.{run_at}

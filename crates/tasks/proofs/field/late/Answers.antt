@@ -1,6 +1,6 @@
-use Rattle.std.proofs.Common.{◌+◌, ◌*◌, ap, ◌∙◌}
+use Rattle.std.proofs.Common.{◌+◌, ◌*◌, ◌∙◌}
 use Rattle.octets.specs.Bytes.{at}
-use Rattle.tasks.specs.Records.{run_at, late_in}
+use Rattle.tasks.specs.Records.{run_at}
 use Rattle.tasks.proofs.Records.{late_going}
 use Rattle.tasks.proofs.field.late.Goals as goal
 

@@ -1,4 +1,4 @@
-use Rattle.std.proofs.Common.{◌≡◌, ◌+◌, ◌*◌, ◌<◌, length, get_or, sym, refl, ap, ◌∙◌, arith}
+use Rattle.std.proofs.Common.{◌∙◌, arith}
 use Rattle.tasks.specs.Records.{run_at}
 use Rattle.tasks.proofs.Elsewhere.{outside_none}
 use Rattle.tasks.proofs.Parts.{register_more, core_run, core_plan, core_others}

@@ -1,5 +1,5 @@
-use Rattle.std.proofs.Common.{◌≡◌, ◌+◌, ◌<◌, sym, ap, ◌∙◌, arith}
-use Rattle.tasks.specs.Unheard.{heard_in, head_in, place_of}
+use Rattle.std.proofs.Common.{◌<◌, sym, ap, ◌∙◌, arith}
+use Rattle.tasks.specs.Unheard.{heard_in, place_of}
 use Rattle.tasks.proofs.Unheard.{arrived, full}
 use Rattle.tasks.proofs.ring.arrive.Goals as goal
 

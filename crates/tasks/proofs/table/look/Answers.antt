@@ -1,6 +1,5 @@
 use Rattle.std.proofs.Common.{ap, ◌∙◌}
-use Rattle.cpu.specs.Rv32i.{rv32i}
-use Rattle.model.specs.Tick.{woken, checked}
+use Rattle.model.specs.Tick.{checked}
 use Rattle.tasks.specs.Records.{run_at, task_at}
 use Rattle.tasks.proofs.Records.{others_then}
 use Rattle.tasks.proofs.table.look.Goals as goal

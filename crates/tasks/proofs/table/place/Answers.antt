@@ -1,4 +1,4 @@
-use Rattle.std.proofs.Common.{refl, ap, ◌∙◌}
+use Rattle.std.proofs.Common.{refl, ◌∙◌}
 use Rattle.cpu.specs.Held.{core_of}
 use Rattle.cpu.specs.Core.{fresh}
 use Rattle.tasks.specs.Records.{run_at}

@@ -1,4 +1,4 @@
-use Rattle.std.proofs.Common.{◌≡◌, [], length, is_ok, sym, refl, ap, ◌∙◌, arith}
+use Rattle.std.proofs.Common.{[], is_ok, sym, refl, ap, arith}
 use Rattle.std.proofs.lemmas.List.{get_or_past}
 use Rattle.plan.specs.Taken.{image_in}
 use Rattle.plan.proofs.Opened.{opened, many_memories, all_ok, memory_found}

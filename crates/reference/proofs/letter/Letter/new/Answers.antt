@@ -1,4 +1,4 @@
-use Rattle.std.proofs.Common.{◌≡◌, ℕ, List, length, take, ap, ◌∙◌}
+use Rattle.std.proofs.Common.{ℕ, List, length, take, ap, ◌∙◌}
 use Rattle.model.specs.World.{Sent}
 use Rattle.reference.specs.Letters.{sent_of}
 use Rattle.reference.proofs.Letters.{take-put_start}

@@ -1,4 +1,4 @@
-use Rattle.std.proofs.Common.{◌≡◌, ltb, map, length, sym, refl, ap, ◌∙◌, arith}
+use Rattle.std.proofs.Common.{◌≡◌, ltb, map, length, sym, refl, ap, ◌∙◌}
 use Rattle.reference.specs.Rows.{held}
 use Rattle.reference.specs.Parts.{tasks_of, runs_of, heard_of, run_of, task_of}
 use Rattle.std.proofs.lemmas.List.{length-map}

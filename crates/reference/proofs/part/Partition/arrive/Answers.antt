@@ -1,6 +1,6 @@
-use Rattle.std.proofs.Common.{◌≡◌, cond, [], ◌∷◌, ◌++◌, map, sym, refl, ap, ◌∙◌, arith}
+use Rattle.std.proofs.Common.{cond, [], ◌∷◌, ◌++◌, refl, ap, ◌∙◌}
 use Rattle.reference.specs.Rows.{held}
-use Rattle.reference.specs.Parts.{tasks_of, runs_of, heard_of, run_of, task_of}
+use Rattle.reference.specs.Parts.{tasks_of, runs_of, heard_of}
 use Rattle.reference.proofs.part.Partition.arrive.Goals as goal
 
 pub returns : goal.returns

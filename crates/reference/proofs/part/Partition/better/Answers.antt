@@ -1,6 +1,4 @@
-use Rattle.std.proofs.Common.{◌≡◌, map, sym, refl, ap, ◌∙◌, arith}
-use Rattle.reference.specs.Rows.{held}
-use Rattle.reference.specs.Parts.{tasks_of, runs_of, heard_of, run_of, task_of}
+use Rattle.std.proofs.Common.{arith}
 use Rattle.reference.proofs.Looking.{better_not, better_none, better_higher, better_first}
 use Rattle.reference.proofs.part.Partition.better.Goals as goal
 

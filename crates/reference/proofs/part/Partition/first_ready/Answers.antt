@@ -1,6 +1,6 @@
-use Rattle.std.proofs.Common.{◌≡◌, ◌+◌, ◌-◌, ◌<◌, map, length, get_or, drop, Some, sym, refl, ap, ◌∙◌, arith}
+use Rattle.std.proofs.Common.{◌≡◌, ◌+◌, ◌-◌, ◌<◌, length, get_or, drop, Some, sym, refl, ap, ◌∙◌, arith}
 use Rattle.reference.specs.Rows.{held}
-use Rattle.reference.specs.Parts.{tasks_of, runs_of, heard_of, run_of, task_of}
+use Rattle.reference.specs.Parts.{tasks_of, runs_of, run_of}
 use Rattle.std.specs.List.{slice_get}
 use Rattle.cpu.specs.Core.{Core}
 use Rattle.model.specs.World.{Run}

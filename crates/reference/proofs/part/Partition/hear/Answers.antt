@@ -1,6 +1,6 @@
-use Rattle.std.proofs.Common.{◌≡◌, [], map, drop, sym, refl, ap, ◌∙◌, arith}
+use Rattle.std.proofs.Common.{◌≡◌, [], drop, sym, refl, ap, ◌∙◌}
 use Rattle.reference.specs.Rows.{held}
-use Rattle.reference.specs.Parts.{tasks_of, runs_of, heard_of, run_of, task_of}
+use Rattle.reference.specs.Parts.{tasks_of, runs_of, heard_of}
 use Rattle.cpu.specs.declared.call.Answer.TheVariants.{Value}
 use Rattle.reference.proofs.Letters.{none_first, some_first}
 use Rattle.reference.proofs.Looking.{first_heard_lem, none_heard}

@@ -1,4 +1,4 @@
-use Rattle.std.proofs.Common.{◌≡◌, ◌<◌, map, length, get_or, set, Some, sym, refl, ap, ◌∙◌, arith}
+use Rattle.std.proofs.Common.{◌≡◌, ◌<◌, map, length, get_or, set, Some, sym, ap, ◌∙◌, arith}
 use Rattle.reference.specs.Rows.{held}
 use Rattle.reference.specs.Parts.{tasks_of, runs_of, heard_of, run_of, task_of}
 use Rattle.std.specs.List.{slice_get}

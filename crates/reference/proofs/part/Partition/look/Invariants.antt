@@ -1,4 +1,4 @@
-use Rattle.std.proofs.Common.{◌≡◌, ◌+◌, ◌++◌, take, drop}
+use Rattle.std.proofs.Common.{◌≡◌, ◌++◌, take, drop}
 use Rattle.cpu.specs.Rv32i.{rv32i}
 use Rattle.model.specs.Tick.{looked}
 use Rattle.reference.specs.Parts.{tasks_of, runs_of, heard_of}

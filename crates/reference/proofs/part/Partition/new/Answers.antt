@@ -1,5 +1,4 @@
-use Rattle.std.proofs.Common.{◌≡◌, map, sym, refl, ap, ◌∙◌}
-use Rattle.reference.specs.Rows.{held}
+use Rattle.std.proofs.Common.{map, ap}
 use Rattle.reference.specs.Parts.{tasks_of, runs_of, heard_of, run_of, task_of}
 use Rattle.reference.proofs.part.Partition.new.Goals as goal
 

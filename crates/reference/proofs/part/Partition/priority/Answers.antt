@@ -1,6 +1,6 @@
-use Rattle.std.proofs.Common.{◌≡◌, map, sym, refl, ap, ◌∙◌, arith}
+use Rattle.std.proofs.Common.{sym, ap, ◌∙◌}
 use Rattle.reference.specs.Rows.{held}
-use Rattle.reference.specs.Parts.{tasks_of, runs_of, heard_of, run_of, task_of}
+use Rattle.reference.specs.Parts.{tasks_of, task_of}
 use Rattle.model.specs.declared.plan.Task.{Task}
 use Rattle.model.specs.World.{no_task}
 use Rattle.reference.proofs.Nths.{get_or-map_some, get_or-map-none}

@@ -1,6 +1,5 @@
 use Rattle.std.proofs.Common.{refl}
-use Rattle.cpu.specs.Held.{core_of}
-use Rattle.model.specs.Tick.{goes_on, waits, stops}
+use Rattle.model.specs.Tick.{stops}
 use Rattle.reference.specs.Rows.{held}
 use Rattle.reference.specs.Parts.{tasks_of, runs_of, heard_of}
 use Rattle.reference.proofs.Changes.{tasks_kept, run_changed}

@@ -1,5 +1,4 @@
-use Rattle.std.proofs.Common.{◌≡◌, map, ap, ◌∙◌}
-use Rattle.model.specs.Tick.{Sight}
+use Rattle.std.proofs.Common.{map}
 use Rattle.reference.specs.Letters.{sight_of, sents_of, sent_of}
 use Rattle.reference.proofs.queue.Queue.new.Goals as goal
 

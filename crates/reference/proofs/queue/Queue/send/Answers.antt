@@ -1,4 +1,4 @@
-use Rattle.std.proofs.Common.{◌≡◌, ◌+◌, [], ◌∷◌, ◌++◌, length, sym, refl, ap, ◌∙◌, arith}
+use Rattle.std.proofs.Common.{◌≡◌, [], ◌∷◌, ◌++◌, length, refl, ap, ◌∙◌, arith}
 use Rattle.cpu.specs.declared.call.Answer.TheVariants.{Value}
 use Rattle.std.proofs.lemmas.List.{length-map}
 use Rattle.reference.specs.Rows.{held}

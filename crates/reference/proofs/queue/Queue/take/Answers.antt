@@ -1,4 +1,4 @@
-use Rattle.std.proofs.Common.{◌≡◌, ◌-◌, ◌%◌, [], ◌∷◌, map, length, drop, sym, refl, ap, ◌∙◌, arith}
+use Rattle.std.proofs.Common.{◌≡◌, ◌-◌, ◌%◌, map, sym, refl, ap, ◌∙◌, arith}
 use Rattle.cpu.specs.declared.call.Answer.TheVariants.{Message}
 use Rattle.model.specs.Tick.{no}
 use Rattle.reference.specs.Rows.{held}

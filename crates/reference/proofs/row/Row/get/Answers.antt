@@ -1,4 +1,4 @@
-use Rattle.std.proofs.Common.{◌<◌, ◌≤◌, length, arith}
+use Rattle.std.proofs.Common.{arith}
 use Rattle.reference.specs.Rows.{held}
 use Rattle.reference.proofs.Rows.{nth_front, nth-behind}
 use Rattle.reference.proofs.row.Row.get.Goals as goal

@@ -1,4 +1,4 @@
-use Rattle.std.proofs.Common.{◌≡◌, sym, refl, ap, ◌∙◌, add-one, arith}
+use Rattle.std.proofs.Common.{refl, ◌∙◌, add-one, arith}
 use Rattle.reference.specs.Parts.{run_of, task_of}
 use Rattle.cpu.specs.Held.{core_of}
 use Rattle.model.specs.declared.plan.State.TheVariants.{Waiting, Stopped}

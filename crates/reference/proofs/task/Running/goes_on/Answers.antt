@@ -1,6 +1,6 @@
-use Rattle.std.proofs.Common.{◌≡◌, sym, refl, ap, ◌∙◌, arith}
+use Rattle.std.proofs.Common.{refl, ap, arith}
 use Rattle.reference.specs.Parts.{run_of, task_of}
-use Rattle.model.specs.Tick.{goes_on, is_ready}
+use Rattle.model.specs.Tick.{goes_on}
 use Rattle.reference.specs.Spare.{spare}
 use Rattle.reference.proofs.Tasks.{ready_is}
 use Rattle.reference.proofs.task.Running.goes_on.Goals as goal

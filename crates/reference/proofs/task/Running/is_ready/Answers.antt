@@ -1,6 +1,6 @@
-use Rattle.std.proofs.Common.{◌≡◌, sym, refl, ap, ◌∙◌, arith}
-use Rattle.reference.specs.Parts.{run_of, task_of}
-use Rattle.model.specs.Tick.{goes_on, is_ready}
+use Rattle.std.proofs.Common.{sym, ap}
+use Rattle.reference.specs.Parts.{run_of}
+use Rattle.model.specs.Tick.{is_ready}
 use Rattle.reference.proofs.task.Running.is_ready.Goals as goal
 
 pub returns-in-Ready : goal.returns-in-Ready

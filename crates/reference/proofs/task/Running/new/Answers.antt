@@ -1,4 +1,4 @@
-use Rattle.std.proofs.Common.{◌≡◌, sym, refl, ap, ◌∙◌, arith}
+use Rattle.std.proofs.Common.{refl}
 use Rattle.reference.specs.Parts.{run_of, task_of}
 use Rattle.model.specs.declared.plan.State.TheVariants.{Ready}
 use Rattle.reference.proofs.task.Running.new.Goals as goal

@@ -1,6 +1,6 @@
-use Rattle.std.proofs.Common.{◌≡◌, sym, refl, ap, ◌∙◌, arith}
+use Rattle.std.proofs.Common.{refl}
 use Rattle.reference.specs.Parts.{run_of, task_of}
-use Rattle.model.specs.Tick.{goes_on, waits, stops, is_ready}
+use Rattle.model.specs.Tick.{stops}
 use Rattle.reference.proofs.task.Running.stops.Goals as goal
 
 pub returns : goal.returns

@@ -1,4 +1,4 @@
-use Rattle.std.proofs.Common.{◌≡◌, ◌+◌, sym, refl, ap, ◌∙◌, arith}
+use Rattle.std.proofs.Common.{◌+◌, refl, ◌∙◌, arith}
 use Rattle.reference.specs.Parts.{run_of, task_of}
 use Rattle.cpu.specs.Rv32i.{rv32i}
 use Rattle.model.specs.declared.plan.State.TheVariants.{Ready}

@@ -1,11 +1,7 @@
-use Rattle.std.proofs.Common.{◌≡◌, ◌+◌, ◌<◌, [], ◌∷◌, map, length, get_or, take, drop, sym, refl, ap, ◌∙◌, arith}
+use Rattle.std.proofs.Common.{◌≡◌, ◌+◌, ◌<◌, [], ◌∷◌, map, length, take, drop, sym, refl, ap, ◌∙◌, arith}
 use Rattle.std.proofs.lemmas.List.{drop_all, drop_more, length-map, get_or-map}
-use Rattle.cpu.specs.Rv32i.{rv32i}
-use Rattle.model.specs.Tick.{tick, ticks}
-use Rattle.reference.specs.Own.{plans_of}
-use Rattle.reference.specs.Parts.{tasks_of}
 use Rattle.reference.specs.Memories.{memories_in}
-use Rattle.reference.specs.View.{plan_in, world_of, after, after_all}
+use Rattle.reference.specs.View.{plan_in, world_of, after_all}
 use Rattle.reference.proofs.Runs.{after_more, behind, run_more, run_all}
 use Rattle.reference.proofs.world.World.run.Goals as goal
 

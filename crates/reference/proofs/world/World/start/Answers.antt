@@ -1,4 +1,3 @@
-use Rattle.std.proofs.Common.{◌≡◌, map, sym, refl, ap, ◌∙◌}
 use Rattle.reference.specs.Memories.{memories_in}
 use Rattle.reference.specs.View.{plan_in}
 use Rattle.reference.proofs.Beginning.{begins}
