@@ -1,6 +1,6 @@
 -- What changes in a partition's own ticks only, and what a channel holds. Assumes nothing.
 use Rattle.std.proofs.Common.{◌≡◌, ℕ, zero, suc, ◌<◌, ◌≤◌, max, true, ◌||◌, eqb, ltb, leb, ◌≢◌, List, [], ◌∷◌, length, get_or, Some, None, Option, unwrap_or, sym, refl, ap, ◌∙◌, subst, arith}
-use Rattle.std.specs.List.{AllByRecursion as All, slice_get}
+use Rattle.std.specs.List.{AllByRecursion, slice_get}
 use Rattle.std.specs.Option.{option_map}
 use Rattle.std.proofs.ByRecursion.{All-push}
 use Rattle.std.proofs.lemmas.List.{length_push, get_or-set_other}
@@ -69,21 +69,21 @@ module _ {C : Type 0} (M : Machine C) (p : Plan) where
   unfolding work applied part
   shown_work w None q e h = h
   shown_work w (Some k) q e h =
-      set_keeps (λ x. All (λ y. turn p y.0 ≡ Some q) x.shown) w.parts k q _ no_part
+      set_keeps (λ x. AllByRecursion (λ y. turn p y.0 ≡ Some q) x.shown) w.parts k q _ no_part
       (λ z. part_tick_holds k w.time (seen p.channels k w) (part w k).shown
-      (λ l _. All (λ y. turn p y.0 ≡ Some q) l) (here z)
+      (λ l _. AllByRecursion (λ y. turn p y.0 ≡ Some q) l) (here z)
       (λ b. All-push _ _ _ (here z) (e ∙ ap {B = Option ℕ} Some (sym z))) (λ _ _ _ _ _. here z)
       (λ _ _ _ _ _ _ _. here z) M (get_or p.tasks k []) (part w k) refl)
       h
     where
-      here : q ≡ k → All (λ y. turn p y.0 ≡ Some q) (get_or w.parts k no_part).shown
-      here z = subst (λ j. All (λ y. turn p y.0 ≡ Some q) (get_or w.parts j no_part).shown) z h
+      here : q ≡ k → AllByRecursion (λ y. turn p y.0 ≡ Some q) (get_or w.parts k no_part).shown
+      here z = subst (λ j. AllByRecursion (λ y. turn p y.0 ≡ Some q) (get_or w.parts j no_part).shown) z h
 
   shown_tick : (w : World C) (row : List Arrival) (q : ℕ) → ShownInOwn p w q → ShownInOwn p (tick M p w row) q
   unfolding tick later part with_heard
   shown_tick w row q h =
       shown_work (came row w) (turn p w.time) q (ap (turn p) (came_time row w))
-      (subst (λ l. All (λ y. turn p y.0 ≡ Some q) l) (sym (came_keeps (λ x. x.shown) (λ x bs. refl) row w q)) h)
+      (subst (λ l. AllByRecursion (λ y. turn p y.0 ≡ Some q) l) (sym (came_keeps (λ x. x.shown) (λ x bs. refl) row w q)) h)
 
   shown_ticks : (rows : List (List Arrival)) (w : World C) (q : ℕ) → ShownInOwn p w q → ShownInOwn p (ticks M p w rows) q
   unfolding ticks
@@ -150,7 +150,7 @@ unfolding begin part
 shows_in_own_ticks M = (
   (λ p w row q h. shown_tick M p w row q h),
   (λ p ms rows q. shown_ticks M p rows (begin M p ms) q
-      (subst (All (λ y. turn p y.0 ≡ Some q)) (sym (nothing_shown M p.tasks ms q)) tt)),
+      (subst (AllByRecursion (λ y. turn p y.0 ≡ Some q)) (sym (nothing_shown M p.tasks ms q)) tt)),
 )
 
 pub channels_fit : {C : Type 0} (M : Machine C) → ChannelsFit M

@@ -1,7 +1,7 @@
 -- What is promised of the model. Each is a statement, whose proof a function of src owes. Assumes nothing: these are
 -- definitions.
 use Rattle.std.specs.Prelude.{◌≡◌, ℕ, ◌+◌, ◌*◌, ◌<◌, ◌≤◌, max, Bool, true, cond, ◌||◌, ◌≢◌, ◌⊎◌, List, [], map, length, get_or, take, Some, None, filter, MatchOption, nat_lt, slice_index_or}
-use Rattle.std.specs.List.{AllByRecursion as All, slice_get}
+use Rattle.std.specs.List.{AllByRecursion, slice_get}
 use Rattle.cpu.specs.Act.{Act, quiet, store, call, wrong, Machine}
 use Rattle.model.specs.declared.plan.Window.{Window}
 use Rattle.model.specs.declared.plan.Channel.{Channel}
@@ -68,14 +68,14 @@ pub record Agree {C : Type 0} (A : ℕ → Bool) (p : Plan) (w v : World C) : Ty
 -- WHAT A CHANNEL HOLDS: no more messages than it has places, or one if it has none, and none longer than it allows.
 pub record Fits (ch : Channel) (ms : List Sent) : Type 0 where
   pub few : length ms ≤ max 1 ch.places
-  pub short : All (λ m. length m.bytes ≤ ch.bytes) ms
+  pub short : AllByRecursion (λ m. length m.bytes ≤ ch.bytes) ms
 
 abbrev pub AllFit : {C : Type 0} → Plan → World C → Type 0
 AllFit p w = (c : ℕ) (ch : Channel) → slice_get p.channels c ≡ Some ch → Fits ch (messages w c)
 
 -- Each byte that q has shown was shown in a tick of q's own.
 abbrev pub ShownInOwn : {C : Type 0} → Plan → World C → ℕ → Type 0
-ShownInOwn p w q = All (λ e. turn p e.0 ≡ Some q) (part w q).shown
+ShownInOwn p w q = AllByRecursion (λ e. turn p e.0 ≡ Some q) (part w q).shown
 
 -- WHICH TASK GOES FIRST. Task k is ready; its priority.
 abbrev pub ReadyAt : {C : Type 0} → List (Run C) → ℕ → Type 0

@@ -1,6 +1,6 @@
 -- What the layout takes for proper is what is in bounds.
 use Rattle.std.proofs.Common.{◌≡◌, ℕ, zero, suc, ◌/◌, ◌≤◌, List, [], ◌∷◌, map, length, sym, refl, ap, ◌∙◌, subst, arith}
-use Rattle.std.specs.List.{AllByRecursion as All}
+use Rattle.std.specs.List.{AllByRecursion}
 use Rattle.std.proofs.ByRecursion.{All-map}
 use Rattle.codec.specs.Codec.{Codec, ProperEach, times}
 use Rattle.model.specs.declared.plan.Window.{Window}
@@ -11,14 +11,14 @@ use Rattle.plan.specs.Bounds.{WindowIn, ChannelIn, TaskIn, TasksIn, MemoryIn, In
 use Rattle.plan.proofs.Lawfulness.{length-proper, tasks_beside}
 
 all_proper :
-    {A : Type 0} (n : ℕ) (c : Codec A) (P : A → Type 0) → ((a : A) → c.Proper a → P a) → (l : List A) → (times n c).Proper l → All P l
+    {A : Type 0} (n : ℕ) (c : Codec A) (P : A → Type 0) → ((a : A) → c.Proper a → P a) → (l : List A) → (times n c).Proper l → AllByRecursion P l
 all_proper zero c P f [] p = tt
 all_proper zero c P f (a ∷ l) p = absurd p
 all_proper (suc n) c P f [] p = absurd p
 all_proper (suc n) c P f (a ∷ l) p = (f a p.0, all_proper n c P f l p.1)
 
 proper_all :
-    {A : Type 0} (c : Codec A) (P : A → Type 0) → ((a : A) → P a → c.Proper a) → (l : List A) → All P l → (times (length l) c).Proper l
+    {A : Type 0} (c : Codec A) (P : A → Type 0) → ((a : A) → P a → c.Proper a) → (l : List A) → AllByRecursion P l → (times (length l) c).Proper l
 proper_all c P f [] p = tt
 proper_all c P f (a ∷ l) p = (f a p.0, proper_all c P f l p.1)
 
@@ -56,7 +56,7 @@ same_length [] (m ∷ ms) p = absurd p
 same_length (q ∷ ps) [] p = absurd p
 same_length (q ∷ ps) (m ∷ ms) p = ap suc (same_length ps ms p.1)
 
-memories_in_lem : (n : ℕ) (ps : List Part) (ms : List (List ℕ)) → (times n partition).Proper ps → ProperEach memory ps ms → All MemoryIn ms
+memories_in_lem : (n : ℕ) (ps : List Part) (ms : List (List ℕ)) → (times n partition).Proper ps → ProperEach memory ps ms → AllByRecursion MemoryIn ms
 memories_in_lem n [] [] u p = tt
 memories_in_lem n [] (m ∷ ms) u p = absurd p
 memories_in_lem zero (q ∷ ps) [] u p = absurd p
@@ -69,7 +69,7 @@ pages_of_lem : (m : List ℕ) (h : MemoryIn m) → length m / 4096 ≡ h.pages
 pages_of_lem m h = omega (arith, h.whole)
 
 in_parts :
-    (ms : List (List ℕ)) (ts : List (List Task)) → length ms ≡ length ts → All MemoryIn ms → All TasksIn ts
+    (ms : List (List ℕ)) (ts : List (List Task)) → length ms ≡ length ts → AllByRecursion MemoryIn ms → AllByRecursion TasksIn ts
     → (times (length ts) partition).Proper (beside ms ts)
 in_parts [] [] e hm ht = tt
 in_parts [] (t ∷ ts) e hm ht = absurd (omega (arith, e))
@@ -85,7 +85,7 @@ in_parts (m ∷ ms) (t ∷ ts) e hm ht = (
   in_parts ms ts (omega (arith, e)) hm.1 ht.1,
 )
 
-in_memories : (ms : List (List ℕ)) (ts : List (List Task)) → length ms ≡ length ts → All MemoryIn ms → ProperEach memory (beside ms ts) ms
+in_memories : (ms : List (List ℕ)) (ts : List (List Task)) → length ms ≡ length ts → AllByRecursion MemoryIn ms → ProperEach memory (beside ms ts) ms
 in_memories [] ts e hm = tt
 in_memories (m ∷ ms) [] e hm = absurd (omega (arith, e))
 in_memories (m ∷ ms) (t ∷ ts) e hm =
@@ -109,7 +109,7 @@ bounds-proper i p =
           all_proper (length i.plan.windows) (window s n) (WindowIn s n) (window_in s n h.0.0 h.1.0.0) i.plan.windows p.1.0;
       each_channel = all_proper (length i.plan.channels) (channel n) (ChannelIn n) (channel_in n h.1.0.0) i.plan.channels p.1.1.0;
       each_tasks =
-          subst (All TasksIn) ts (All-map TasksIn (λ q. q.tasks) ps (all_proper n partition (λ q. TasksIn q.tasks) tasks_in_lem ps p.1.1.1.0));
+          subst (AllByRecursion TasksIn) ts (All-map TasksIn (λ q. q.tasks) ps (all_proper n partition (λ q. TasksIn q.tasks) tasks_in_lem ps p.1.1.1.0));
       memories = sym (same_length ps i.memories p.1.1.1.1) ∙ many;
       each_memory = memories_in_lem n ps i.memories p.1.1.1.0 p.1.1.1.1;
     }

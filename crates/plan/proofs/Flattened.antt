@@ -1,6 +1,6 @@
 -- Every plan in bounds, in flat rows; and what was written is read.
 use Rattle.std.proofs.Common.{◌≡◌, ℕ, suc, ◌+◌, ◌*◌, ◌/◌, ◌≤◌, List, [], ◌∷◌, ◌++◌, length, take, drop, sym, refl, ap, ◌∙◌, arith}
-use Rattle.std.specs.List.{flat_map, AllByRecursion as All}
+use Rattle.std.specs.List.{flat_map, AllByRecursion}
 use Rattle.std.proofs.lemmas.List.{take_at, drop_at, length-append}
 use Rattle.octets.specs.Bytes.{put}
 use Rattle.codec.specs.Codec.{got}
@@ -40,7 +40,7 @@ tasks_cut (m ∷ ms) (t ∷ ts) e =
 whole_pages : (m : List ℕ) → MemoryIn m → length m ≡ 4096 * (length m / 4096)
 whole_pages m h = omega (arith, h.whole)
 
-memories_cut : (ms : List (List ℕ)) (ts : List (List Task)) → length ms ≡ length ts → All MemoryIn ms → cut_memories (heads ms ts) (all ms) ≡ ms
+memories_cut : (ms : List (List ℕ)) (ts : List (List Task)) → length ms ≡ length ts → AllByRecursion MemoryIn ms → cut_memories (heads ms ts) (all ms) ≡ ms
 unfolding heads
 memories_cut [] ts e h = refl
 memories_cut (m ∷ ms) [] e h = absurd (omega (arith, e))
@@ -57,13 +57,13 @@ said_all [] (t ∷ ts) e = absurd (omega (arith, e))
 said_all (m ∷ ms) [] e = refl
 said_all (m ∷ ms) (t ∷ ts) e = omega (arith, said_all ms ts (omega (arith, e)), length-append t (all ts))
 
-pages_all : (ms : List (List ℕ)) (ts : List (List Task)) → length ms ≡ length ts → All MemoryIn ms → 4096 * pages_said (heads ms ts) ≡ length (all ms)
+pages_all : (ms : List (List ℕ)) (ts : List (List Task)) → length ms ≡ length ts → AllByRecursion MemoryIn ms → 4096 * pages_said (heads ms ts) ≡ length (all ms)
 unfolding heads
 pages_all [] ts e h = refl
 pages_all (m ∷ ms) [] e h = absurd (omega (arith, e))
 pages_all (m ∷ ms) (t ∷ ts) e h = omega (arith, pages_all ms ts (omega (arith, e)) h.1, length-append m (all ms), whole_pages m h.0)
 
-few_all : (ts : List (List Task)) → All TasksIn ts → length (all ts) ≤ 16 * length ts
+few_all : (ts : List (List Task)) → AllByRecursion TasksIn ts → length (all ts) ≤ 16 * length ts
 few_all [] h = omega arith
 few_all (t ∷ ts) h = omega (arith, few_all ts h.1, length-append t (all ts), h.0.few)
 

@@ -1,6 +1,6 @@
 -- Which plans, with their memories, are in bounds. Assumes nothing: these are definitions.
 use Rattle.std.specs.Prelude.{◌≡◌, ℕ, ◌*◌, ◌<◌, ◌≤◌, List, length}
-use Rattle.std.specs.List.{AllByRecursion as All}
+use Rattle.std.specs.List.{AllByRecursion}
 use Rattle.codec.specs.Codec.{Bytes}
 use Rattle.model.specs.declared.plan.Window.{Window}
 use Rattle.model.specs.declared.plan.Channel.{Channel}
@@ -30,7 +30,7 @@ pub record TaskIn (t : Task) : Type 0 where
 
 pub record TasksIn (ts : List Task) : Type 0 where
   pub few : length ts ≤ 16
-  pub each : All TaskIn ts
+  pub each : AllByRecursion TaskIn ts
 
 -- Whole pages of 4,096 bytes.
 pub record MemoryIn (m : List ℕ) : Type 0 where
@@ -44,8 +44,8 @@ pub record InBounds (i : Image) : Type 0 where
   pub partitions : From 1 32 (length i.plan.tasks)
   pub windows : From 1 256 (length i.plan.windows)
   pub channels : length i.plan.channels ≤ 128
-  pub each_window : All (WindowIn i.plan.system (length i.plan.tasks)) i.plan.windows
-  pub each_channel : All (ChannelIn (length i.plan.tasks)) i.plan.channels
-  pub each_tasks : All TasksIn i.plan.tasks
+  pub each_window : AllByRecursion (WindowIn i.plan.system (length i.plan.tasks)) i.plan.windows
+  pub each_channel : AllByRecursion (ChannelIn (length i.plan.tasks)) i.plan.channels
+  pub each_tasks : AllByRecursion TasksIn i.plan.tasks
   pub memories : length i.memories ≡ length i.plan.tasks
-  pub each_memory : All MemoryIn i.memories
+  pub each_memory : AllByRecursion MemoryIn i.memories

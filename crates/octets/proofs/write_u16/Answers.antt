@@ -6,7 +6,7 @@ use Rattle.octets.proofs.write_u16.Goals as goal
 
 pub returns : goal.returns
 returns c =
-    let w : c.copy_from_slice.new.self ≡ bytes_of 2 c.args.v = c.copy_from_slice.ensures.after ∙ c.to_le_bytes.ensures ∙ bytes_of_2 c.args.v in
+    let w : c.copy_from_slice.new.self ≡ bytes_of 2 c.args.v = cc (bytes_of_2 c.args.v) in
     record {
       after =
           put_is c.args.b.now c.copy_from_slice.new.self c.args.k _ (omega (arith, ap length w, length-bytes_of 2 c.args.v))
