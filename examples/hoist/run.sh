@@ -4,8 +4,8 @@
 # Prints what the partitions show, and holds it to hoist.expected. Status 0 if it is the same, 1 if not.
 set -eu
 here=$(cd "$(dirname "$0")" && pwd)
-program=${1:-$here/../../target/bin/world}
-mkplan=${2:-$here/../../target/bin/mkplan}
+program=${1:-$here/../../crates/world/out/world}
+mkplan=${2:-$here/../../crates/mkplan/out/mkplan}
 work=$(mktemp -d)
 trap 'rm -rf "$work"' EXIT
 "$mkplan" "$here/hoist.plan.txt" "$work/hoist.plan" >&2

@@ -1,5 +1,5 @@
 //! What a core fetches, loads and stores.
-ghost use Rattle.std.specs.Prelude.{◌≡◌, ◌+◌, ◌%◌, ◌≤◌, leb, length, if◌then◌else◌, Some, None, nat_le};
+ghost use Rattle.std.specs.Prelude.{◌≡◌, ◌+◌, ◌%◌, ◌≤◌, length, if◌then◌else◌, Some, None, nat_le};
 ghost use Rattle.octets.specs.Bytes.{at, put, bytes_of};
 ghost use Rattle.cpu.specs.Effects.{inside};
 ghost use Rattle.cpu.specs.Meaning.{load_bytes, store_bytes, extended};
@@ -27,7 +27,7 @@ pub fn fetch(b: &[u8], pc: u32) -> Option<u32>
 pub fn load(b: &[u8], kind: LoadKind, address: u32) -> Option<u32>
     requires mapped { Mapped b.now }
     requires aligned { address % load_bytes kind ≡ 0 }
-    ensures value { result ≡ (if leb (address + load_bytes kind) (length (memory_of b.now)) then Some (extended kind (at (load_bytes kind) (memory_of b.now) address)) else None) }
+    ensures value { result ≡ (if nat_le (address + load_bytes kind) (length (memory_of b.now)) then Some (extended kind (at (load_bytes kind) (memory_of b.now) address)) else None) }
 {
     let Some(k) = walk(b, address) else {
         return None;
@@ -40,7 +40,7 @@ pub fn store(b: &mut [u8], kind: StoreKind, address: u32, value: u32) -> bool
     requires mapped { Mapped b.old }
     requires aligned { address % store_bytes kind ≡ 0 }
     ensures value { result ≡ nat_le (address + store_bytes kind) (length (memory_of b.old)) }
-    ensures memory { memory_of b.new ≡ (if leb (address + store_bytes kind) (length (memory_of b.old)) then put (memory_of b.old) address (bytes_of (store_bytes kind) value) else memory_of b.old) }
+    ensures memory { memory_of b.new ≡ (if nat_le (address + store_bytes kind) (length (memory_of b.old)) then put (memory_of b.old) address (bytes_of (store_bytes kind) value) else memory_of b.old) }
     ensures control { control_of b.new ≡ control_of b.old }
     ensures kept { Mapped b.new }
 {

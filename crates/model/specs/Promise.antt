@@ -1,6 +1,6 @@
 -- What is promised of the model. Each is a statement, whose proof a function of src owes. Assumes nothing: these are
 -- definitions.
-use Rattle.std.specs.Prelude.{◌≡◌, ℕ, ◌+◌, ◌*◌, ◌<◌, ◌≤◌, max, Bool, true, cond, ◌||◌, ◌≢◌, ◌⊎◌, List, [], map, length, get_or, take, Some, None, filter, MatchOption, nat_lt, slice_index_or}
+use Rattle.std.specs.Prelude.{◌≡◌, ℕ, ◌+◌, ◌*◌, ◌<◌, ◌≤◌, max, Bool, true, cond, ◌||◌, ◌≢◌, ◌⊎◌, List, [], map, length, take, Some, None, filter, MatchOption, nat_lt, slice_index_or}
 use Rattle.std.specs.List.{AllByRecursion, slice_get}
 use Rattle.cpu.specs.Act.{Act, quiet, store, call, wrong, Machine}
 use Rattle.model.specs.declared.plan.Window.{Window}
@@ -82,7 +82,7 @@ abbrev pub ReadyAt : {C : Type 0} → List (Run C) → ℕ → Type 0
 ReadyAt rs k = slice_get (map (λ r. r.state) rs) k ≡ Some Ready
 
 abbrev pub priority_of : List Task → ℕ → ℕ
-priority_of ks k = (get_or ks k no_task).priority
+priority_of ks k = (slice_index_or ks k no_task).priority
 
 -- Task j is ready, no ready task has a higher priority, and none before it has an equal one.
 pub record GoesFirst {C : Type 0} (ks : List Task) (rs : List (Run C)) (j : ℕ) : Type 0 where

@@ -1,6 +1,6 @@
 -- What a tick does. A partition's own tick is a function of what the partition may see: its tasks' plan, the time, the
 -- channels that it has an end of, and its own part. Assumes nothing: these are definitions.
-use Rattle.std.specs.Prelude.{ℕ, zero, suc, ◌+◌, ◌-◌, ◌%◌, Bool, true, false, cond, ◌&&◌, ◌||◌, List, [], ◌∷◌, ◌++◌, length, get_or, drop, replicate, Some, None, Option, ◌==◌, nat_le, nat_lt, slice_index_or, slice_set}
+use Rattle.std.specs.Prelude.{ℕ, zero, suc, ◌+◌, ◌-◌, ◌%◌, Bool, true, false, cond, ◌&&◌, ◌||◌, List, [], ◌∷◌, ◌++◌, length, drop, replicate, Some, None, Option, ◌==◌, nat_le, nat_lt, slice_index_or, slice_set}
 use Rattle.std.specs.List.{between}
 use Rattle.octets.specs.Bytes.{put}
 use Rattle.cpu.specs.Act.{Act, quiet, store, call, wrong, Machine}
@@ -53,7 +53,7 @@ update (x ∷ xs) (suc i) f = x ∷ update xs i f
 unfoldable pub better : List Task → ℕ → Bool → Option ℕ → Option ℕ
 better ks i false o = o
 better ks i true None = Some i
-better ks i true (Some j) = Some (cond (nat_lt (get_or ks i no_task).priority (get_or ks j no_task).priority) j i)
+better ks i true (Some j) = Some (cond (nat_lt (slice_index_or ks i no_task).priority (slice_index_or ks j no_task).priority) j i)
 
 -- The byte that came first, or no.
 unfoldable pub first_heard : List ℕ → ℕ

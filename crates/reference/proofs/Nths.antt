@@ -14,10 +14,10 @@ module _ {X : Type 0} where
   nth-none_past (y ∷ ys) zero e = let z : ◌≡◌ {A = ℕ} 0 1 = cc in absurd (omega arith)
   nth-none_past (y ∷ ys) (suc i) e = suc-le-suc (nth-none_past ys i e)
 
-  pub get_d_some : (xs : List X) (i : ℕ) (x d : X) → slice_get xs i ≡ Some x → get_or xs i d ≡ x
-  get_d_some [] i x d e = let z : ◌≡◌ {A = ℕ} 0 1 = cc in absurd (omega arith)
-  get_d_some (y ∷ ys) zero x d e = cc
-  get_d_some (y ∷ ys) (suc i) x d e = get_d_some ys i x d e
+  pub get_or_some : (xs : List X) (i : ℕ) (x d : X) → slice_get xs i ≡ Some x → get_or xs i d ≡ x
+  get_or_some [] i x d e = let z : ◌≡◌ {A = ℕ} 0 1 = cc in absurd (omega arith)
+  get_or_some (y ∷ ys) zero x d e = cc
+  get_or_some (y ∷ ys) (suc i) x d e = get_or_some ys i x d e
 
   pub set_same : (xs : List X) (i : ℕ) (x d : X) → get_or xs i d ≡ x → set xs i x ≡ xs
   set_same xs i x d e = ap (set xs i) (sym e) ∙ set-get_or xs i d

@@ -1,5 +1,5 @@
 //! What becomes of a partition.
-ghost use Rattle.std.specs.Prelude.{◌≡◌, true, ltb, [], ◌∷◌, ◌++◌, length, drop, if◌then◌else◌, Some, nat_lt, slice_index_or};
+ghost use Rattle.std.specs.Prelude.{◌≡◌, true, [], ◌∷◌, ◌++◌, length, drop, if◌then◌else◌, Some, nat_lt, slice_index_or};
 ghost use Rattle.std.specs.List.{slice_get};
 ghost use Rattle.cpu.specs.Core.{fresh};
 ghost use Rattle.cpu.specs.Held.{core_of};
@@ -66,7 +66,7 @@ impl Partition {
     /// A byte from outside comes; where as many wait as may, it is lost.
     pub(crate) fn arrive(&mut self, byte: u8)
         ensures same { self.new.tasks ≡ self.old.tasks }
-        ensures heard { heard_of self.new ≡ (if ltb (length (heard_of self.old)) most_unheard then heard_of self.old ++ byte ∷ [] else heard_of self.old) }
+        ensures heard { heard_of self.new ≡ (if nat_lt (length (heard_of self.old)) most_unheard then heard_of self.old ++ byte ∷ [] else heard_of self.old) }
     {
         let _ = self.heard.push(byte);
     }
