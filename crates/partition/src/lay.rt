@@ -7,7 +7,7 @@ ghost use Rattle.model.specs.Tick.{new_runs};
 ghost use Rattle.memory.specs.Frames.{memory_of, frame, pages_of, Mapped};
 ghost use Rattle.tasks.specs.Records.{run_at, task_at};
 ghost use Rattle.tasks.specs.Unheard.{heard_in};
-ghost use Rattle.plan.specs.Views.{memory_of as memoryIn, tasks_of as tasks_in};
+ghost use Rattle.plan.specs.Views.{memory_of as memory_in, tasks_of as tasks_in};
 ghost use Rattle.partition.specs.Block.{count_of, part_of, tasks_of, Own, TableOnly, TableKept, CountOnly};
 
 use crate::frames::CONTROL;
@@ -64,11 +64,11 @@ fn fill(b: &mut [u8], memory: &[u8])
 /// The block of partition q of a plan at the start, whatever it held before: its memory is the plan's, its tasks are ready and
 /// new, and nothing is unheard.
 pub fn lay(b: &mut [u8], view: &View<'_>, q: u8)
-    requires size { length b.old ≡ 32768 + length (memoryIn view.now q) }
+    requires size { length b.old ≡ 32768 + length (memory_in view.now q) }
     requires whole { length b.old ≡ 32768 + 4096 * pages_of b.old }
     requires few { pages_of b.old ≤ 1024 }
     requires one { length (tasks_in view.now q) ≤ 1 }
-    ensures part { part_of b.new [] ≡ record { memory = memoryIn view.now q; tasks = new_runs rv32i 0 (tasks_in view.now q); heard = []; shown = [] } }
+    ensures part { part_of b.new [] ≡ record { memory = memory_in view.now q; tasks = new_runs rv32i 0 (tasks_in view.now q); heard = []; shown = [] } }
     ensures plan { tasks_of b.new ≡ tasks_in view.now q }
     ensures own { Own b.new }
 {

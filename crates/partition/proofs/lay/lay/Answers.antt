@@ -1,7 +1,7 @@
 use Rattle.std.proofs.Common.{ap, ◌∙◌, arith}
 use Rattle.tasks.specs.Records.{run_at, task_at}
 use Rattle.tasks.specs.Unheard.{heard_in}
-use Rattle.plan.specs.Views.{memory_of as memoryIn, tasks_of as tasks_in}
+use Rattle.plan.specs.Views.{memory_of as memory_in, tasks_of as tasks_in}
 use Rattle.partition.proofs.Lays.{only_one, no_one, part_at_start, new_one, new_none, plan_one, plan_none}
 use Rattle.partition.proofs.lay.lay.Goals as goal
 
@@ -16,7 +16,7 @@ returns-in-Some c =
     let one = c.set_count.ensures.value in
     record {
       part =
-          part_at_start b (memoryIn v q) (tasks_in v q)
+          part_at_start b (memory_in v q) (tasks_in v q)
           (only.memory ∙ c.place.ensures.only.memory ∙ c.clear.ensures.memory ∙ c.fill.ensures.memory ∙ c.memory_bytes.ensures.value)
           (ap heard_in (only.unheard ∙ c.place.ensures.only.unheard) ∙ c.clear.ensures.heard)
           (new_one b k (tasks_in v q) one (ap (λ f. run_at f 0) only.table ∙ c.place.ensures.run) is);
@@ -34,7 +34,7 @@ returns-in-None c =
     let none = c.set_count-in-None.ensures.value in
     record {
       part =
-          part_at_start b (memoryIn v q) (tasks_in v q)
+          part_at_start b (memory_in v q) (tasks_in v q)
           (only.memory ∙ c.clear.ensures.memory ∙ c.fill.ensures.memory ∙ c.memory_bytes.ensures.value)
           (ap heard_in only.unheard ∙ c.clear.ensures.heard)
           (new_none b (tasks_in v q) none is);
