@@ -1,6 +1,8 @@
 -- What the code says of a number's reading, in the words of the kind `number`. Assumes nothing: these are definitions.
-use Rattle.std.specs.Prelude.{ℕ, ◌+◌, ◌≤◌, List, length}
+use Rattle.std.specs.Prelude.{ℕ, ◌+◌, ◌≤◌, List, length, Result, Ok, Err}
 use Rattle.codec.specs.Codec.{Outcome, got, refused}
+use Rattle.codec.specs.declared.Unfit.{Unfit}
+use Rattle.codec.specs.declared.Unfit.TheVariants as why
 use Rattle.codec.specs.declared.Width.{Width}
 use Rattle.codec.specs.declared.Width.TheVariants.{One, Two, Four}
 use Rattle.codec.specs.declared.Field.{Field}
@@ -27,3 +29,9 @@ abbrev pub Inside : List ℕ → (k n : ℕ) → Field → Type 0
 Inside xs k n (Got v) = k + n ≤ length xs
 Inside xs k n Missing = Unit {0}
 Inside xs k n Fault = Unit {0}
+
+-- A number of n bytes at k: what was found there, as a number, with the numbers of the two refusals.
+abbrev pub outcome_of : {A : Type 0} → (A → ℕ) → (missing fault : ℕ) → List ℕ → (k n : ℕ) → Result A Unfit → Outcome ℕ
+outcome_of value missing fault xs k n (Ok v) = got (value v) (k + n)
+outcome_of value missing fault xs k n (Err why.Missing) = refused missing (length xs)
+outcome_of value missing fault xs k n (Err why.OutOfRange) = refused fault k

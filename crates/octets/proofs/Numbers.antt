@@ -1,7 +1,8 @@
 -- Numbers in bytes, one byte at a time, and back.
-use Rattle.std.proofs.Common.{◌≡◌, ℕ, zero, suc, ◌+◌, ◌-◌, ◌*◌, ◌/◌, ◌%◌, ◌^◌, ◌<◌, ◌≤◌, List, [], ◌∷◌, ◌++◌, length, get_or, take, drop, sym, refl, ap, ◌∙◌, mul_assoc, mul_comm, pow-suc, arith}
+use Rattle.std.proofs.Common.{◌≡◌, ℕ, zero, suc, ◌+◌, ◌-◌, ◌*◌, ◌/◌, ◌%◌, ◌^◌, ◌<◌, List, [], ◌∷◌, length, get_or, take, drop, sym, refl, ap, ◌∙◌, pow-suc, arith}
 use native.Mathlib.Nat.{mod-add-div, div-div-eq-div-mul}
-use Rattle.std.proofs.lemmas.List.{drop_more}
+use Rattle.std.proofs.lemmas.List.{drop_more, take_all}
+use Rattle.std.proofs.lemmas.Slice.{between_from_start}
 use Rattle.octets.specs.Bytes.{number, bytes_of, at}
 
 pub at_none : (xs : List ℕ) (k : ℕ) → at 0 xs k ≡ 0
@@ -40,6 +41,11 @@ bytes_of-number (b ∷ bs) h =
     ∙ ap (λ x. b ∷ bytes_of (length bs) x) high
     ∙ ap (λ xs. b ∷ xs) (bytes_of-number bs (λ k. h (suc k)))
 
+-- All of a row is its part from the front on.
+pub number_is-at : (n : ℕ) (bs : List ℕ) → length bs ≡ n → number bs ≡ at n bs 0
+unfolding at
+number_is-at n bs e = ap number (sym (between_from_start bs (0 + n) ∙ take_all (0 + n) bs (omega arith)))
+
 -- The bytes of a number as the machine writes them.
 pub bytes_of_2 : (v : ℕ) → v % 256 ∷ v / 256 % 256 ∷ [] ≡ bytes_of 2 v
 unfolding bytes_of
@@ -47,45 +53,9 @@ bytes_of_2 v = refl
 
 pub bytes_of_4 : (v : ℕ) → v % 256 ∷ v / 256 % 256 ∷ v / 65536 % 256 ∷ v / 16777216 % 256 ∷ [] ≡ bytes_of 4 v
 unfolding bytes_of
-bytes_of_4 v =
-    ap (λ m. v % 256 ∷ v / 256 % 256 ∷ m % 256 ∷ v / 16777216 % 256 ∷ []) (sym (div-div-eq-div-mul v 256 256))
-    ∙ ap (λ m. v % 256 ∷ v / 256 % 256 ∷ v / 256 / 256 % 256 ∷ m % 256 ∷ []) (sym (div-div-eq-div-mul v 65536 256) ∙ ap (λ m. m / 256) (sym (div-div-eq-div-mul v 256 256)))
+bytes_of_4 v = simp div-div-eq-div-mul
 
--- Eight bytes are four and four.
-pub at_8 : (xs : List ℕ) (k : ℕ) → k + 8 ≤ length xs → at 8 xs k ≡ at 4 xs k + 4294967296 * at 4 xs (k + 4)
-at_8 xs k h =
-    omega (
-      arith,
-      at_more 7 xs k (k + 1) (omega arith) (omega arith),
-      at_more 6 xs (k + 1) (k + 2) (omega arith) (omega arith),
-      at_more 5 xs (k + 2) (k + 3) (omega arith) (omega arith),
-      at_more 4 xs (k + 3) (k + 4) (omega arith) (omega arith),
-      at_more 3 xs k (k + 1) (omega arith) (omega arith),
-      at_more 2 xs (k + 1) (k + 2) (omega arith) (omega arith),
-      at_more 1 xs (k + 2) (k + 3) (omega arith) (omega arith),
-      at_more 0 xs (k + 3) (k + 4) (omega arith) (omega arith),
-      at_none xs (k + 4),
-    )
-
--- The bytes of a number are those of its low part and of its high part.
-pub bytes_of_join : (m n lo hi : ℕ) → lo < 256 ^ m → bytes_of (m + n) (lo + 256 ^ m * hi) ≡ bytes_of m lo ++ bytes_of n hi
+pub bytes_of_8 :
+    (v : ℕ) → v % 256 ∷ v / 256 % 256 ∷ v / 65536 % 256 ∷ v / 16777216 % 256 ∷ v / 4294967296 % 256 ∷ v / 1099511627776 % 256 ∷ v / 281474976710656 % 256 ∷ v / 72057594037927936 % 256 ∷ [] ≡ bytes_of 8 v
 unfolding bytes_of
-bytes_of_join zero n lo hi h =
-    let e : 0 + n ≡ n = omega arith in
-    let v : lo + 1 * hi ≡ hi = omega arith in
-    ap (λ k. bytes_of k (lo + 1 * hi)) e ∙ ap (bytes_of n) v
-bytes_of_join (suc m) n lo hi h =
-    let e : suc m + n ≡ suc (m + n) = omega arith in
-    let p : 256 ^ suc m * hi ≡ 256 * (256 ^ m * hi) = ap (λ x. x * hi) (pow-suc 256 m ∙ mul_comm (256 ^ m) 256) ∙ mul_assoc 256 (256 ^ m) hi in
-    let low : (lo + 256 ^ suc m * hi) % 256 ≡ lo % 256 = omega arith in
-    let high : (lo + 256 ^ suc m * hi) / 256 ≡ lo / 256 + 256 ^ m * hi = omega arith in
-    let small : lo / 256 < 256 ^ m = omega (arith, pow-suc 256 m) in
-    ap (λ k. bytes_of k (lo + 256 ^ suc m * hi)) e
-    ∙ ap (λ x. x ∷ bytes_of (m + n) ((lo + 256 ^ suc m * hi) / 256)) low
-    ∙ ap (λ x. lo % 256 ∷ bytes_of (m + n) x) high
-    ∙ ap (λ xs. lo % 256 ∷ xs) (bytes_of_join m n (lo / 256) hi small)
-
-pub bytes_of_8 : (v : ℕ) → bytes_of 8 v ≡ bytes_of 4 (v % 4294967296) ++ bytes_of 4 (v / 4294967296)
-bytes_of_8 v =
-    let e : v ≡ v % 4294967296 + 4294967296 * (v / 4294967296) = omega arith in
-    ap (bytes_of 8) e ∙ bytes_of_join 4 4 (v % 4294967296) (v / 4294967296) (omega arith)
+bytes_of_8 v = simp div-div-eq-div-mul

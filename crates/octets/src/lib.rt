@@ -2,77 +2,198 @@
 //!
 //! Owns the words in which all that lies in bytes is said: `put`, `number`, `bytes_of` and `at`, and their laws, once for
 //! every width. Promises that a read gives the number at its place, and that a write changes the bytes of its place and no
-//! others. Knows nothing of what the bytes are for. A place outside the slice is ruled out where a function is called, as
-//! for an index. Headline: `write_u32`, clause `after`.
+//! others, for each kind of `Number`. Knows nothing of what the bytes are for. A place outside the slice is ruled out where
+//! a function is called, as for an index. Headline: `write`, clause `after`.
 #![tactic(auto)]
 
-ghost use Rattle.std.specs.Prelude.{◌≡◌, ◌+◌, ◌<◌, ◌≤◌, [], ◌∷◌, length};
-ghost use Rattle.octets.specs.Bytes.{at, put, bytes_of};
+ghost use Rattle.std.specs.Prelude.{◌≡◌, ℕ, ◌+◌, ◌<◌, ◌≤◌, [], ◌∷◌, length};
+ghost use Rattle.octets.specs.Bytes.{at, put, bytes_of, number};
 ghost use Rattle.octets.specs.Laws.{ReadsBack, KeepsOthers, KeepsLength, Restores};
 
-/// The number in the byte at `k`.
+/// A number that can stand in bytes.
+pub trait Number: Copy {
+    /// How many bytes it has.
+    ghost SIZE: { ℕ };
+
+    /// The number itself.
+    ghost value: { Self → ℕ };
+
+    const SIZE: usize;
+
+    /// The number that so many bytes stand for.
+    fn of_bytes(b: &[u8]) -> Self
+        requires { length b.now ≡ SIZE }
+        ensures { value result ≡ number b.now };
+
+    /// Fills so many bytes with its own.
+    fn fill(self, b: &mut [u8])
+        requires { length b.old ≡ SIZE }
+        ensures { b.new ≡ bytes_of SIZE (value self) };
+
+    /// The number as one of the widest kind.
+    fn value(self) -> u64
+        ensures { result ≡ value self };
+}
+
+impl Number for u8 {
+    ghost SIZE = { 1 };
+
+    ghost value = { λ n. n };
+
+    const SIZE: usize = 1;
+
+    fn of_bytes(b: &[u8]) -> u8 {
+        u8::from_le_bytes([b[0]])
+    }
+
+    fn fill(self, b: &mut [u8]) {
+        b.copy_from_slice(&u8::to_le_bytes(self));
+    }
+
+    fn value(self) -> u64 {
+        u64::from(self)
+    }
+}
+
+impl Number for u16 {
+    ghost SIZE = { 2 };
+
+    ghost value = { λ n. n };
+
+    const SIZE: usize = 2;
+
+    fn of_bytes(b: &[u8]) -> u16 {
+        u16::from_le_bytes([b[0], b[1]])
+    }
+
+    fn fill(self, b: &mut [u8]) {
+        b.copy_from_slice(&u16::to_le_bytes(self));
+    }
+
+    fn value(self) -> u64 {
+        u64::from(self)
+    }
+}
+
+impl Number for u32 {
+    ghost SIZE = { 4 };
+
+    ghost value = { λ n. n };
+
+    const SIZE: usize = 4;
+
+    fn of_bytes(b: &[u8]) -> u32 {
+        u32::from_le_bytes([b[0], b[1], b[2], b[3]])
+    }
+
+    fn fill(self, b: &mut [u8]) {
+        b.copy_from_slice(&u32::to_le_bytes(self));
+    }
+
+    fn value(self) -> u64 {
+        u64::from(self)
+    }
+}
+
+impl Number for u64 {
+    ghost SIZE = { 8 };
+
+    ghost value = { λ n. n };
+
+    const SIZE: usize = 8;
+
+    fn of_bytes(b: &[u8]) -> u64 {
+        u64::from_le_bytes([b[0], b[1], b[2], b[3], b[4], b[5], b[6], b[7]])
+    }
+
+    fn fill(self, b: &mut [u8]) {
+        b.copy_from_slice(&u64::to_le_bytes(self));
+    }
+
+    fn value(self) -> u64 {
+        self
+    }
+}
+
+/// The number in the bytes from `k` on.
+pub fn read<N: Number>(b: &[u8], k: usize) -> N
+    requires { k + N.SIZE ≤ length b.now }
+    ensures value { N.value result ≡ at N.SIZE b.now k }
+{
+    N::of_bytes(&b[k..k + N::SIZE])
+}
+
+/// Writes a number into the bytes from `k` on.
+pub fn write<N: Number>(b: &mut [u8], k: usize, v: N)
+    requires { k + N.SIZE ≤ length b.old }
+    ensures after { b.new ≡ put b.old k (bytes_of N.SIZE (N.value v)) }
+{
+    v.fill(&mut b[k..k + N::SIZE]);
+}
+
+// These go when the crates above call `read` and `write`.
+/// The number of 1 bytes from `k` on.
 pub fn read_u8(b: &[u8], k: usize) -> u8
     requires { k + 1 ≤ length b.now }
     ensures value { result ≡ at 1 b.now k }
 {
-    u8::from_le_bytes([b[k]])
+    read(b, k)
 }
 
-/// The number in the two bytes from `k` on.
-pub fn read_u16(b: &[u8], k: usize) -> u16
-    requires { k + 2 ≤ length b.now }
-    ensures value { result ≡ at 2 b.now k }
-{
-    u16::from_le_bytes([b[k], b[k + 1]])
-}
-
-/// The number in the four bytes from `k` on.
-pub fn read_u32(b: &[u8], k: usize) -> u32
-    requires { k + 4 ≤ length b.now }
-    ensures value { result ≡ at 4 b.now k }
-{
-    u32::from_le_bytes([b[k], b[k + 1], b[k + 2], b[k + 3]])
-}
-
-/// The number in the eight bytes from `k` on.
-pub fn read_u64(b: &[u8], k: usize) -> u64
-    requires { k + 8 ≤ length b.now }
-    ensures value { result ≡ at 8 b.now k }
-{
-    u64::from(read_u32(b, k)) + 4_294_967_296 * u64::from(read_u32(b, k + 4))
-}
-
-/// Writes a number into the byte at `k`.
+/// Writes a number of 1 bytes from `k` on.
 pub fn write_u8(b: &mut [u8], k: usize, v: u8)
     requires { k + 1 ≤ length b.old }
     ensures after { b.new ≡ put b.old k (bytes_of 1 v) }
 {
-    b[k] = v;
+    write(b, k, v);
 }
 
-/// Writes a number into the two bytes from `k` on.
+/// The number of 2 bytes from `k` on.
+pub fn read_u16(b: &[u8], k: usize) -> u16
+    requires { k + 2 ≤ length b.now }
+    ensures value { result ≡ at 2 b.now k }
+{
+    read(b, k)
+}
+
+/// Writes a number of 2 bytes from `k` on.
 pub fn write_u16(b: &mut [u8], k: usize, v: u16)
     requires { k + 2 ≤ length b.old }
     ensures after { b.new ≡ put b.old k (bytes_of 2 v) }
 {
-    b[k..k + 2].copy_from_slice(&v.to_le_bytes());
+    write(b, k, v);
 }
 
-/// Writes a number into the four bytes from `k` on.
+/// The number of 4 bytes from `k` on.
+pub fn read_u32(b: &[u8], k: usize) -> u32
+    requires { k + 4 ≤ length b.now }
+    ensures value { result ≡ at 4 b.now k }
+{
+    read(b, k)
+}
+
+/// Writes a number of 4 bytes from `k` on.
 pub fn write_u32(b: &mut [u8], k: usize, v: u32)
     requires { k + 4 ≤ length b.old }
     ensures after { b.new ≡ put b.old k (bytes_of 4 v) }
 {
-    b[k..k + 4].copy_from_slice(&v.to_le_bytes());
+    write(b, k, v);
 }
 
-/// Writes a number into the eight bytes from `k` on.
+/// The number of 8 bytes from `k` on.
+pub fn read_u64(b: &[u8], k: usize) -> u64
+    requires { k + 8 ≤ length b.now }
+    ensures value { result ≡ at 8 b.now k }
+{
+    read(b, k)
+}
+
+/// Writes a number of 8 bytes from `k` on.
 pub fn write_u64(b: &mut [u8], k: usize, v: u64)
     requires { k + 8 ≤ length b.old }
     ensures after { b.new ≡ put b.old k (bytes_of 8 v) }
 {
-    write_u32(b, k, (v % 4_294_967_296) as u32);
-    write_u32(b, k + 4, (v / 4_294_967_296) as u32);
+    write(b, k, v);
 }
 
 /// Copies bytes in from `k` on.
