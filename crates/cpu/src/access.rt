@@ -1,5 +1,6 @@
-//! Accesses to memory: whether they lie in it, and what a load makes of what it read.
-ghost use Rattle.std.specs.Prelude.{◌≡◌, ◌<◌};
+//! Accesses to memory: whether they lie in it, what a load reads and makes of it, and what a store writes.
+ghost use Rattle.std.specs.Prelude.{◌≡◌, ◌+◌, ◌<◌, ◌≤◌, length};
+ghost use Rattle.octets.specs.Bytes.{at, put, bytes_of};
 ghost use Rattle.cpu.specs.Effects.{inside};
 ghost use Rattle.cpu.specs.Meaning.{extended, load_bytes, low, store_bytes};
 ghost use Rattle.decode.specs.Fields.{signed};
@@ -39,24 +40,50 @@ pub(crate) fn is_inside(n: u32, k: u32, size: usize) -> bool
     k % n == 0 && k as usize + n as usize <= size
 }
 
-/// Whether a load from an address is inside.
-pub(crate) fn load_inside(kind: LoadKind, address: u32, size: usize) -> bool
-    ensures value { result ≡ inside (load_bytes kind) address size }
+/// How many bytes a load reads.
+pub(crate) fn load_bytes(kind: LoadKind) -> u32
+    ensures value { result ≡ load_bytes kind }
+    ensures some { 0 < result }
 {
     match kind {
-        LoadKind::Lb | LoadKind::Lbu => is_inside(1, address, size),
-        LoadKind::Lh | LoadKind::Lhu => is_inside(2, address, size),
-        LoadKind::Lw => is_inside(4, address, size),
+        LoadKind::Lb | LoadKind::Lbu => 1,
+        LoadKind::Lh | LoadKind::Lhu => 2,
+        LoadKind::Lw => 4,
     }
 }
 
-/// Whether a store to an address is inside.
-pub(crate) fn store_inside(kind: StoreKind, address: u32, size: usize) -> bool
-    ensures value { result ≡ inside (store_bytes kind) address size }
+/// How many bytes a store writes.
+pub(crate) fn store_bytes(kind: StoreKind) -> u32
+    ensures value { result ≡ store_bytes kind }
+    ensures some { 0 < result }
 {
     match kind {
-        StoreKind::Sb => is_inside(1, address, size),
-        StoreKind::Sh => is_inside(2, address, size),
-        StoreKind::Sw => is_inside(4, address, size),
+        StoreKind::Sb => 1,
+        StoreKind::Sh => 2,
+        StoreKind::Sw => 4,
+    }
+}
+
+/// The number that a load reads from `k` on.
+pub fn read(b: &[u8], kind: LoadKind, k: usize) -> u32
+    requires { k + load_bytes kind ≤ length b.now }
+    ensures value { result ≡ at (load_bytes kind) b.now k }
+{
+    match kind {
+        LoadKind::Lb | LoadKind::Lbu => u32::from(octets::read::<u8>(b, k)),
+        LoadKind::Lh | LoadKind::Lhu => u32::from(octets::read::<u16>(b, k)),
+        LoadKind::Lw => octets::read(b, k),
+    }
+}
+
+/// Writes the low bytes of a number, as many as a store does, from `k` on.
+pub fn write(b: &mut [u8], kind: StoreKind, k: usize, value: u32)
+    requires { k + store_bytes kind ≤ length b.old }
+    ensures after { b.new ≡ put b.old k (bytes_of (store_bytes kind) value) }
+{
+    match kind {
+        StoreKind::Sb => octets::write(b, k, (value % 256) as u8),
+        StoreKind::Sh => octets::write(b, k, (value % 65536) as u16),
+        StoreKind::Sw => octets::write(b, k, value),
     }
 }

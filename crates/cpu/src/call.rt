@@ -3,7 +3,7 @@ ghost use Rattle.std.specs.Prelude.{◌≡◌};
 ghost use Rattle.cpu.specs.Calls.{call_of};
 
 /// A call, as a task's registers say it: its number in x17, its arguments in x10 to x12.
-#[derive(Clone, Copy)]
+#[derive(Clone, Copy, PartialEq, Eq, Debug)]
 pub enum Call {
     /// 0: shows a byte in this tick.
     Show(u8),
@@ -29,12 +29,17 @@ pub enum Call {
 }
 
 /// What comes back of a call.
-#[derive(Clone, Copy)]
+#[derive(Clone, Copy, PartialEq, Eq, Debug)]
 pub enum Answer {
     /// A number, in x10.
     Value(u32),
     /// A message was taken: how many ticks ago it was sent, in x10, and its length, in x11.
     Message { age: u32, length: u32 },
+}
+
+impl Answer {
+    /// What comes back of a call that is refused, and of one that finds nothing.
+    pub const NO: Answer = Answer::Value(u32::MAX);
 }
 
 impl Call {

@@ -4,7 +4,7 @@ use decode::reg::Reg;
 
 /// What an instruction does to registers and memory. An access lies in memory, at a multiple of its size. After a load, a
 /// store or a call the task goes on by 4.
-#[derive(Clone, Copy)]
+#[derive(Clone, Copy, PartialEq, Eq, Debug)]
 pub enum Effect {
     /// Register rd gets the value, and the task goes on at `next`.
     Sets {

@@ -1,8 +1,9 @@
 //! What an instruction does, given the values of the registers that it reads.
-ghost use Rattle.std.specs.Prelude.{◌≡◌};
-ghost use Rattle.cpu.specs.Effects.{branches, effect, following, Inside, jumps, sources, x0};
+ghost use Rattle.std.specs.Prelude.{◌≡◌, ◌<◌, if◌then◌else◌};
+ghost use Rattle.cpu.specs.Effects.{effect, following, inside, Inside, jumps, sources, x0};
+ghost use Rattle.cpu.specs.declared.effect.Effect.TheVariants.{Wrong};
 
-use crate::access::{is_inside, load_inside, store_inside};
+use crate::access::{is_inside, load_bytes, store_bytes};
 use crate::effect::Effect;
 use crate::operation::{displace, holds, shift, with_immediate, with_register};
 use decode::instruction::Instruction;
@@ -24,18 +25,16 @@ pub fn execute(i: Instruction, pc: u32, a: u32, b: u32, size: usize) -> Effect
             value: pc.wrapping_add(upper << 12),
             next: after(pc),
         },
-        Instruction::Jal { rd, offset } => jump(rd, after(pc), displace(pc, offset), size),
+        Instruction::Jal { rd, offset } => jump(rd, pc, displace(pc, offset), size),
         Instruction::Jalr { rd, offset, .. } => {
             let target = displace(a, offset);
-            jump(rd, after(pc), target - target % 2, size)
+            jump(rd, pc, target - target % 2, size)
         }
-        Instruction::Branch { on, offset, .. } => {
-            if holds(on, a, b) {
-                branch(displace(pc, offset), size)
-            } else {
-                Effect::Goes { next: after(pc) }
-            }
+        Instruction::Branch { on, offset, .. } if holds(on, a, b) => {
+            let next = displace(pc, offset);
+            if_inside(4, next, size, Effect::Goes { next })
         }
+        Instruction::Branch { .. } => Effect::Goes { next: after(pc) },
         Instruction::Load {
             kind,
             rd,
@@ -43,23 +42,21 @@ pub fn execute(i: Instruction, pc: u32, a: u32, b: u32, size: usize) -> Effect
             ..
         } => {
             let address = displace(a, offset);
-            if load_inside(kind, address, size) {
-                Effect::Loads { rd, kind, address }
-            } else {
-                Effect::Wrong
-            }
+            if_inside(
+                load_bytes(kind),
+                address,
+                size,
+                Effect::Loads { rd, kind, address },
+            )
         }
         Instruction::Store { kind, offset, .. } => {
             let address = displace(a, offset);
-            if store_inside(kind, address, size) {
-                Effect::Stores {
-                    kind,
-                    address,
-                    value: b,
-                }
-            } else {
-                Effect::Wrong
-            }
+            let stores = Effect::Stores {
+                kind,
+                address,
+                value: b,
+            };
+            if_inside(store_bytes(kind), address, size, stores)
         }
         Instruction::Immediate {
             op,
@@ -95,30 +92,28 @@ fn after(pc: u32) -> u32
     pc.wrapping_add(4)
 }
 
-/// A jump that keeps where the task would have gone on.
-fn jump(rd: Reg, back: u32, target: u32, size: usize) -> Effect
-    ensures value { result ≡ jumps rd back target size }
+/// An effect, if the n bytes that it is about lie in memory, at a multiple of n.
+fn if_inside(n: u32, k: u32, size: usize, effect: Effect) -> Effect
+    requires some { 0 < n }
+    ensures value { result ≡ (if inside n k size then effect else Wrong) }
 {
-    if is_inside(4, target, size) {
-        Effect::Sets {
-            rd,
-            value: back,
-            next: target,
-        }
+    if is_inside(n, k, size) {
+        effect
     } else {
         Effect::Wrong
     }
 }
 
-/// A branch that is taken.
-fn branch(target: u32, size: usize) -> Effect
-    ensures value { result ≡ branches target size }
+/// A jump that keeps where the task would have gone on.
+fn jump(rd: Reg, pc: u32, target: u32, size: usize) -> Effect
+    ensures value { result ≡ jumps rd (following pc) target size }
 {
-    if is_inside(4, target, size) {
-        Effect::Goes { next: target }
-    } else {
-        Effect::Wrong
-    }
+    let jumps = Effect::Sets {
+        rd,
+        value: after(pc),
+        next: target,
+    };
+    if_inside(4, target, size, jumps)
 }
 
 /// The register that is always 0.

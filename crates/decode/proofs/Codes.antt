@@ -1,5 +1,6 @@
 -- The functs of each kind, there and back.
 use Rattle.std.proofs.Common.{◌≡◌, ℕ, ◌^◌, ◌<◌, cond, eqb, Some, None, Option, refl, lit<}
+use Rattle.std.specs.Option.{IfSome}
 use Rattle.std.proofs.lemmas.Bool.{cond_both, eqb-true}
 use Rattle.decode.specs.declared.instruction.Condition.{Condition}
 use Rattle.decode.specs.declared.instruction.Condition.TheVariants.{Beq, Bne, Blt, Bge, Bltu, Bgeu}
@@ -16,10 +17,9 @@ use Rattle.decode.specs.declared.instruction.RegisterOp.TheVariants.{Add, Sub, S
 use Rattle.decode.specs.Decoded.{condition_of, load_kind_of, store_kind_of, immediate_op_of, shift_op_of, plain_op_of, other_op_of, register_op_of}
 use Rattle.decode.specs.Encodes.{branch_funct3, load_funct3, store_funct3, immediate_funct3, shift_functs, register_functs}
 
--- What holds of the value in a Some.
+-- What holds of the value in a Some, seen as a fact about the Option.
 abbrev pub Told : {A : Type 0} → (A → Type 0) → Option A → Type 0
-Told P None = Unit {0}
-Told P (Some x) = P x
+Told P o = IfSome o P
 
 -- A test for one value, and what is left.
 told_by : {A : Type 0} (P : A → Type 0) (f n : ℕ) (x : A) (rest : Option A) → (f ≡ n → P x) → Told P rest → Told P (cond (eqb f n) (Some x) rest)

@@ -2,7 +2,7 @@
 use crate::reg::Reg;
 
 /// What a branch asks of the registers rs1 and rs2.
-#[derive(Clone, Copy)]
+#[derive(Clone, Copy, PartialEq, Eq, Debug)]
 pub enum Condition {
     /// They are equal.
     Beq,
@@ -19,7 +19,7 @@ pub enum Condition {
 }
 
 /// What a load reads, and how it fills the register.
-#[derive(Clone, Copy)]
+#[derive(Clone, Copy, PartialEq, Eq, Debug)]
 pub enum LoadKind {
     /// One byte, a signed number.
     Lb,
@@ -34,7 +34,7 @@ pub enum LoadKind {
 }
 
 /// How much of rs2 a store writes: the lowest byte, the two lowest, or all four.
-#[derive(Clone, Copy)]
+#[derive(Clone, Copy, PartialEq, Eq, Debug)]
 pub enum StoreKind {
     Sb,
     Sh,
@@ -42,7 +42,7 @@ pub enum StoreKind {
 }
 
 /// What is done with rs1 and a number of twelve bits.
-#[derive(Clone, Copy)]
+#[derive(Clone, Copy, PartialEq, Eq, Debug)]
 pub enum ImmediateOp {
     Addi,
     Slti,
@@ -53,7 +53,7 @@ pub enum ImmediateOp {
 }
 
 /// A shift of rs1 by a number of bits: left, right with zeros, right with the sign.
-#[derive(Clone, Copy)]
+#[derive(Clone, Copy, PartialEq, Eq, Debug)]
 pub enum ShiftOp {
     Slli,
     Srli,
@@ -61,7 +61,7 @@ pub enum ShiftOp {
 }
 
 /// What is done with rs1 and rs2.
-#[derive(Clone, Copy)]
+#[derive(Clone, Copy, PartialEq, Eq, Debug)]
 pub enum RegisterOp {
     Add,
     Sub,
@@ -76,7 +76,7 @@ pub enum RegisterOp {
 }
 
 /// An instruction of RV32I, without the environment's but ECALL.
-#[derive(Clone, Copy)]
+#[derive(Clone, Copy, PartialEq, Eq, Debug)]
 pub enum Instruction {
     /// LUI: `upper` becomes the 20 high bits of rd.
     Lui {

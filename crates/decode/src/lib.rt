@@ -150,19 +150,18 @@ fn immediate_j(word: u32) -> i32
     )
 }
 
+// What funct3 and funct7 say of a class is a function to Option, and no TryFrom: there is nothing to say of a number that
+// no instruction has, so an error type would be made only to be thrown away.
+
 /// The second stage: JALR has funct3 0.
 fn jalr(word: u32) -> Option<Instruction>
     ensures value { result ≡ jalr_with word (funct3_of word) }
 {
-    if funct3(word) == 0 {
-        Some(Instruction::Jalr {
-            rd: register(word, 7),
-            rs1: register(word, 15),
-            offset: immediate_i(word),
-        })
-    } else {
-        None
-    }
+    (funct3(word) == 0).then_some(Instruction::Jalr {
+        rd: register(word, 7),
+        rs1: register(word, 15),
+        offset: immediate_i(word),
+    })
 }
 
 /// BRANCH, by funct3.
@@ -183,15 +182,13 @@ fn condition(funct3: u32) -> Option<Condition>
 fn branch(word: u32) -> Option<Instruction>
     ensures value { result ≡ branch_with word (condition_of (funct3_of word)) }
 {
-    match condition(funct3(word)) {
-        Some(on) => Some(Instruction::Branch {
-            on,
-            rs1: register(word, 15),
-            rs2: register(word, 20),
-            offset: immediate_b(word),
-        }),
-        None => None,
-    }
+    let on = condition(funct3(word))?;
+    Some(Instruction::Branch {
+        on,
+        rs1: register(word, 15),
+        rs2: register(word, 20),
+        offset: immediate_b(word),
+    })
 }
 
 /// LOAD, by funct3.
@@ -211,15 +208,13 @@ fn load_kind(funct3: u32) -> Option<LoadKind>
 fn load(word: u32) -> Option<Instruction>
     ensures value { result ≡ load_with word (load_kind_of (funct3_of word)) }
 {
-    match load_kind(funct3(word)) {
-        Some(kind) => Some(Instruction::Load {
-            kind,
-            rd: register(word, 7),
-            rs1: register(word, 15),
-            offset: immediate_i(word),
-        }),
-        None => None,
-    }
+    let kind = load_kind(funct3(word))?;
+    Some(Instruction::Load {
+        kind,
+        rd: register(word, 7),
+        rs1: register(word, 15),
+        offset: immediate_i(word),
+    })
 }
 
 /// STORE, by funct3.
@@ -237,15 +232,13 @@ fn store_kind(funct3: u32) -> Option<StoreKind>
 fn store(word: u32) -> Option<Instruction>
     ensures value { result ≡ store_with word (store_kind_of (funct3_of word)) }
 {
-    match store_kind(funct3(word)) {
-        Some(kind) => Some(Instruction::Store {
-            kind,
-            rs1: register(word, 15),
-            rs2: register(word, 20),
-            offset: immediate_s(word),
-        }),
-        None => None,
-    }
+    let kind = store_kind(funct3(word))?;
+    Some(Instruction::Store {
+        kind,
+        rs1: register(word, 15),
+        rs2: register(word, 20),
+        offset: immediate_s(word),
+    })
 }
 
 /// OP-IMM, by funct3; what is left are the shifts, by funct7 too.
@@ -280,33 +273,24 @@ fn immediate(word: u32) -> Option<Instruction>
 fn shift_op(funct7: u32, funct3: u32) -> Option<ShiftOp>
     ensures value { result ≡ shift_op_of funct7 funct3 }
 {
-    if funct7 == 0 {
-        if funct3 == 1 {
-            Some(ShiftOp::Slli)
-        } else if funct3 == 5 {
-            Some(ShiftOp::Srli)
-        } else {
-            None
-        }
-    } else if funct7 == 0x20 && funct3 == 5 {
-        Some(ShiftOp::Srai)
-    } else {
-        None
+    match (funct7, funct3) {
+        (0, 1) => Some(ShiftOp::Slli),
+        (0, 5) => Some(ShiftOp::Srli),
+        (0x20, 5) => Some(ShiftOp::Srai),
+        _ => None,
     }
 }
 
 fn shift(word: u32) -> Option<Instruction>
     ensures value { result ≡ shift_with word (shift_op_of (funct7_of word) (funct3_of word)) }
 {
-    match shift_op(funct7(word), funct3(word)) {
-        Some(op) => Some(Instruction::Shift {
-            op,
-            rd: register(word, 7),
-            rs1: register(word, 15),
-            amount: (word >> 20) % 32,
-        }),
-        None => None,
-    }
+    let op = shift_op(funct7(word), funct3(word))?;
+    Some(Instruction::Shift {
+        op,
+        rd: register(word, 7),
+        rs1: register(word, 15),
+        amount: (word >> 20) % 32,
+    })
 }
 
 /// OP, where funct7 is 0, and where it is 0x20.
@@ -349,35 +333,25 @@ fn register_op(funct7: u32, funct3: u32) -> Option<RegisterOp>
 fn registers(word: u32) -> Option<Instruction>
     ensures value { result ≡ register_with word (register_op_of (funct7_of word) (funct3_of word)) }
 {
-    match register_op(funct7(word), funct3(word)) {
-        Some(op) => Some(Instruction::Register {
-            op,
-            rd: register(word, 7),
-            rs1: register(word, 15),
-            rs2: register(word, 20),
-        }),
-        None => None,
-    }
+    let op = register_op(funct7(word), funct3(word))?;
+    Some(Instruction::Register {
+        op,
+        rd: register(word, 7),
+        rs1: register(word, 15),
+        rs2: register(word, 20),
+    })
 }
 
 /// MISC-MEM: FENCE has funct3 0, and its other fields say only what it orders.
 fn fence(word: u32) -> Option<Instruction>
     ensures value { result ≡ fence_with (funct3_of word) }
 {
-    if funct3(word) == 0 {
-        Some(Instruction::Fence)
-    } else {
-        None
-    }
+    (funct3(word) == 0).then_some(Instruction::Fence)
 }
 
 /// SYSTEM: ECALL is one word.
 fn system(word: u32) -> Option<Instruction>
     ensures value { result ≡ system_of word }
 {
-    if word == 0x73 {
-        Some(Instruction::Ecall)
-    } else {
-        None
-    }
+    (word == 0x73).then_some(Instruction::Ecall)
 }

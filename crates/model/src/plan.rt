@@ -1,7 +1,7 @@
 //! What a plan is made of, and what a tick brings from outside.
 
 /// A window: whose it is, and how many ticks it has.
-#[derive(Clone, Copy)]
+#[derive(Clone, Copy, PartialEq, Eq, Debug)]
 pub struct Window {
     pub partition: u8,
     pub ticks: u32,
@@ -9,7 +9,7 @@ pub struct Window {
 
 /// A channel: from which partition, to which, the most bytes of a message, and its places. With no places it keeps the
 /// last message; with some, messages wait in the order in which they came.
-#[derive(Clone, Copy)]
+#[derive(Clone, Copy, PartialEq, Eq, Debug)]
 pub struct Channel {
     pub from: u8,
     pub to: u8,
@@ -19,7 +19,7 @@ pub struct Channel {
 
 /// A task: the higher priority goes first; its period; by when after each beginning it has to wait again; and how often
 /// it may be late before it is stopped.
-#[derive(Clone, Copy)]
+#[derive(Clone, Copy, PartialEq, Eq, Debug)]
 pub struct Task {
     pub priority: u8,
     pub period: u32,
@@ -28,14 +28,14 @@ pub struct Task {
 }
 
 /// A byte from outside, and the partition that it is for.
-#[derive(Clone, Copy)]
+#[derive(Clone, Copy, PartialEq, Eq, Debug)]
 pub struct Arrival {
     pub partition: u8,
     pub byte: u8,
 }
 
 /// What a task is doing.
-#[derive(Clone, Copy)]
+#[derive(Clone, Copy, PartialEq, Eq, Debug)]
 pub enum State {
     /// It may do instructions.
     Ready,

@@ -1,5 +1,6 @@
 -- Numbers in bytes, one byte at a time, and back.
-use Rattle.std.proofs.Common.{◌≡◌, ℕ, zero, suc, ◌+◌, ◌-◌, ◌*◌, ◌/◌, ◌%◌, ◌^◌, ◌<◌, List, [], ◌∷◌, length, get_or, take, drop, sym, refl, ap, ◌∙◌, pow-suc, arith}
+use Rattle.std.proofs.Common.{◌≡◌, ℕ, zero, suc, ◌+◌, ◌-◌, ◌*◌, ◌/◌, ◌%◌, ◌^◌, ◌<◌, List, [], ◌∷◌, length, get_or, take, drop, sym, refl, ap, ◌∙◌, pow-suc, lit<, arith}
+use Rattle.std.proofs.Math.Arith.{mod-mul}
 use native.Mathlib.Nat.{mod-add-div, div-div-eq-div-mul}
 use Rattle.std.proofs.lemmas.List.{drop_more, take_all}
 use Rattle.std.proofs.lemmas.Slice.{between_from_start}
@@ -40,6 +41,21 @@ bytes_of-number (b ∷ bs) h =
     ap (λ x. x ∷ bytes_of (length bs) ((b + 256 * number bs) / 256)) low
     ∙ ap (λ x. b ∷ bytes_of (length bs) x) high
     ∙ ap (λ xs. b ∷ xs) (bytes_of-number bs (λ k. h (suc k)))
+
+power : (n : ℕ) → 0 < 256 ^ n
+power zero = lit< tt
+power (suc n) = omega (arith, pow-suc 256 n, power n)
+
+-- The low bytes of a number are those of its remainder.
+pub bytes_of-mod : (n v : ℕ) → bytes_of n (v % 256 ^ n) ≡ bytes_of n v
+unfolding bytes_of
+bytes_of-mod zero v = refl
+bytes_of-mod (suc n) v =
+    let w : v % 256 ^ suc n ≡ v / 256 % 256 ^ n * 256 + v % 256 =
+    ap (λ m. v % m) (pow-suc 256 n) ∙ mod-mul v (power n) (lit< tt) in
+    let low : v % 256 ^ suc n % 256 ≡ v % 256 = omega arith in
+    let high : v % 256 ^ suc n / 256 ≡ v / 256 % 256 ^ n = omega arith in
+    ap (λ x. x ∷ bytes_of n (v % 256 ^ suc n / 256)) low ∙ ap (λ x. v % 256 ∷ x) (ap (bytes_of n) high ∙ bytes_of-mod n (v / 256))
 
 -- All of a row is its part from the front on.
 pub number_is-at : (n : ℕ) (bs : List ℕ) → length bs ≡ n → number bs ≡ at n bs 0

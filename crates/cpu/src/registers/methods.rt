@@ -26,9 +26,9 @@ impl Registers {
     pub fn of(pc: u32, x: [u32; 32]) -> Registers
         ensures value { core_of result ≡ record { pc = pc; x = slice_set x 0 0 } }
     {
-        let mut all = x;
-        all[0] = 0;
-        Registers { pc, x: all }
+        let mut x = x;
+        x[0] = 0;
+        Registers { pc, x }
     }
 
     /// The address of the instruction at hand.
@@ -103,10 +103,7 @@ impl Registers {
         ensures value { result ≡ effect_fetched (core_of self.now) word size }
         ensures inside { Inside size result }
     {
-        let Some(word) = word else {
-            return Effect::Wrong;
-        };
-        let Some(i) = decode(word) else {
+        let Some(i) = word.and_then(decode) else {
             return Effect::Wrong;
         };
         let (rs1, rs2) = operands(&i);
