@@ -19,26 +19,13 @@ mod tests {
 
     // What the instruction of a word does where x5 and x6 hold a and b.
     fn effect_of(word: u32, a: u32, b: u32) -> Effect {
-        match decode(word) {
-            Some(i) => execute(i, PC, a, b, SIZE as usize),
-            None => Effect::Wrong,
-        }
+        decode(word).map_or(Effect::Wrong, |i| execute(i, PC, a, b, SIZE as usize))
     }
 
-    // What x7 is set to, and where the task goes on.
-    fn sets(word: u32, a: u32, b: u32) -> Option<(u32, u32)> {
-        match effect_of(word, a, b) {
-            Effect::Sets { rd, value, next } if rd.number() == 7 => Some((value, next)),
-            _ => None,
-        }
-    }
-
-    // Where the task goes on, with nothing else done.
-    fn goes(word: u32, a: u32, b: u32) -> Option<u32> {
-        match effect_of(word, a, b) {
-            Effect::Goes { next } => Some(next),
-            _ => None,
-        }
+    // x7 is set to the value, and the task goes on at `next`.
+    fn sets(value: u32, next: u32) -> Effect {
+        let rd = Reg::of(7);
+        Effect::Sets { rd, value, next }
     }
 
     // From where x7 is loaded.
@@ -58,7 +45,7 @@ mod tests {
     }
 
     fn is_wrong(word: u32, a: u32) -> bool {
-        matches!(effect_of(word, a, 0), Effect::Wrong)
+        effect_of(word, a, 0) == Effect::Wrong
     }
 
     // A word, x5, x6, and what x7 gets.
@@ -118,10 +105,10 @@ mod tests {
     #[test]
     fn computes(rt: HostRuntime) {
         for (word, a, b, value) in REGISTERS {
-            assert_eq!(rt; sets(word, a, b), Some((value, PC + 4)));
+            assert_eq!(rt; effect_of(word, a, b), sets(value, PC + 4));
         }
         for (word, a, value) in IMMEDIATES {
-            assert_eq!(rt; sets(word, a, 0), Some((value, PC + 4)));
+            assert_eq!(rt; effect_of(word, a, 0), sets(value, PC + 4));
         }
     }
 
@@ -151,13 +138,16 @@ mod tests {
     #[test]
     fn branches(rt: HostRuntime) {
         for (word, a, b) in TAKEN {
-            assert_eq!(rt; goes(word, a, b), Some(0));
+            assert_eq!(rt; effect_of(word, a, b), Effect::Goes { next: 0 });
         }
         for (word, a, b) in LEFT {
-            assert_eq!(rt; goes(word, a, b), Some(PC + 4));
+            assert_eq!(rt; effect_of(word, a, b), Effect::Goes { next: PC + 4 });
         }
         // The last word of memory; behind it; before its start; between two words.
-        assert_eq!(rt; goes(0x6e628ee3, 0, 0), Some(SIZE - 4));
+        assert_eq!(rt;
+            effect_of(0x6e628ee3, 0, 0),
+            Effect::Goes { next: SIZE - 4 }
+        );
         for word in [0x706280e3, 0xee628ee3, 0x00628363] {
             assert!(rt; is_wrong(word, 0));
         }
@@ -165,15 +155,15 @@ mod tests {
 
     #[test]
     fn jumps(rt: HostRuntime) {
-        assert_eq!(rt; sets(0xf01ff3ef, 0, 0), Some((PC + 4, 0)));
-        assert_eq!(rt; sets(0x6fd003ef, 0, 0), Some((PC + 4, SIZE - 4)));
+        assert_eq!(rt; effect_of(0xf01ff3ef, 0, 0), sets(PC + 4, 0));
+        assert_eq!(rt; effect_of(0x6fd003ef, 0, 0), sets(PC + 4, SIZE - 4));
         for word in [0x701003ef, 0xefdff3ef, 0x002003ef] {
             assert!(rt; is_wrong(word, 0));
         }
         // JALR by -1 clears the lowest bit; by 2047 it goes round the end of the numbers.
-        assert_eq!(rt; sets(0xfff283e7, 513, 0), Some((PC + 4, 512)));
-        assert_eq!(rt; sets(0xfff283e7, 514, 0), Some((PC + 4, 512)));
-        assert_eq!(rt; sets(0x7ff283e7, 0xfffff801, 0), Some((PC + 4, 0)));
+        assert_eq!(rt; effect_of(0xfff283e7, 513, 0), sets(PC + 4, 512));
+        assert_eq!(rt; effect_of(0xfff283e7, 514, 0), sets(PC + 4, 512));
+        assert_eq!(rt; effect_of(0x7ff283e7, 0xfffff801, 0), sets(PC + 4, 0));
         assert!(rt; is_wrong(0xfff283e7, 511));
         assert!(rt; is_wrong(0xfff283e7, SIZE + 1));
     }
@@ -280,9 +270,9 @@ mod tests {
         for word in WRONG {
             assert!(rt; is_wrong(word, 0));
         }
-        assert!(rt; matches!(effect_of(0x00000073, 0, 0), Effect::Calls));
-        assert_eq!(rt; goes(0x0ff0000f, 0, 0), Some(PC + 4));
-        assert_eq!(rt; goes(0x8330000f, 0, 0), Some(PC + 4));
+        assert_eq!(rt; effect_of(0x00000073, 0, 0), Effect::Calls);
+        assert_eq!(rt; effect_of(0x0ff0000f, 0, 0), Effect::Goes { next: PC + 4 });
+        assert_eq!(rt; effect_of(0x8330000f, 0, 0), Effect::Goes { next: PC + 4 });
     }
 
     #[test]

@@ -1,102 +1,107 @@
 //! A plan run to its end.
-use crate::laid::{channels_of, memory_of, pages_of, parts_of, windows_of};
+use crate::laid::Laid;
 use model::plan::Arrival;
+use plan::check::check;
 use plan::refusal::Refusal;
 use plan::row::Row;
 use plan::rows::row_end;
 use plan::view::View;
 use reference::shown::Shown;
-use reference::world::World;
-use std::alloc::{AllocError, Global};
+use std::alloc::{AllocError, AllocFailed, Global};
 
-/// What came of a run: what was shown, in the order of the ticks, and why a row was refused, if one was.
+/// Why a run ends before all was done.
 #[derive(Drop)]
-pub struct Outcome {
-    pub shown: Vec<Shown>,
-    pub refused: Option<Refusal>,
+pub enum Ended {
+    /// The plan, or a row, is refused.
+    Refused(Refusal),
+    Heap(AllocError),
 }
 
-/// Runs so many ticks in which nothing comes from outside, as rows of one byte would say it.
-pub fn run_ticks(heap: Global, view: &View<'_>, ticks: u64) -> Result<Outcome, AllocError> {
-    let windows = windows_of(heap, view)?;
-    let pages = pages_of(heap, view)?;
-    let mut parts = parts_of(heap, view)?;
-    let mut channels = channels_of(heap, view)?;
-    let mut memory = memory_of(heap, view)?;
-    let mut shown = Vec::new(heap);
-    let mut refused = None;
-    let mut world = World::start(
-        view.system(),
-        windows.as_slice(),
-        parts.as_mut_slice(),
-        pages.as_slice(),
-        memory.as_mut_slice(),
-        channels.as_mut_slice(),
-    );
-    for tick in 0..ticks {
-        let (next, result) = world.tick(&[]);
-        world = next;
-        match result {
-            Ok(None) => {}
-            Ok(Some(b)) => shown.push(b)?,
-            Err(_) => {
-                refused = Some(Refusal::Row(tick as usize));
-                break;
-            }
+impl From<Refusal> for Ended {
+    fn from(refusal: Refusal) -> Ended {
+        Ended::Refused(refusal)
+    }
+}
+
+impl From<AllocError> for Ended {
+    fn from(error: AllocError) -> Ended {
+        Ended::Heap(error)
+    }
+}
+
+impl<T: Drop> From<AllocFailed<T>> for Ended {
+    fn from(failed: AllocFailed<T>) -> Ended {
+        Ended::Heap(AllocError::from(failed))
+    }
+}
+
+/// What comes from outside.
+#[derive(Clone, Copy)]
+pub enum Outside<'a> {
+    /// Nothing, for so many ticks.
+    Nothing(u64),
+    /// A row of bytes for each tick, one behind the other; the next one begins at a place.
+    Rows(&'a [u8], usize),
+}
+
+impl Outside<'_> {
+    /// At most so many ticks.
+    fn most(&self) -> u64 {
+        match *self {
+            Outside::Nothing(ticks) => ticks,
+            Outside::Rows(bytes, _) => bytes.len() as u64,
         }
     }
-    Ok(Outcome { shown, refused })
+
+    fn is_over(&self) -> bool {
+        match *self {
+            Outside::Nothing(_) => false,
+            Outside::Rows(bytes, place) => place >= bytes.len(),
+        }
+    }
+
+    /// Takes the row of a tick: what comes in it, in the order in which it comes.
+    fn take(&mut self, partitions: u8, time: u64, row: &mut Vec<Arrival>) -> Result<(), Ended> {
+        row.clear();
+        if let Outside::Rows(bytes, place) = *self {
+            let end = row_end(bytes, place, partitions, time)?;
+            let coming = Row::new(bytes, place, partitions);
+            for i in 0..coming.len() {
+                if let Some(arrival) = coming.arrival(i) {
+                    row.push(arrival)?;
+                }
+            }
+            *self = Outside::Rows(bytes, end);
+        }
+        Ok(())
+    }
 }
 
-/// The bytes of a row, in the order in which they come.
-fn gather(arrivals: &mut Vec<Arrival>, row: &Row<'_>) -> Result<(), AllocError> {
-    arrivals.clear();
-    for i in 0..row.len() {
-        if let Some(a) = row.arrival(i) {
-            arrivals.push(a)?;
+/// Runs a plan with what comes from outside, and adds what is shown, in the order of the ticks. A row that is refused ends
+/// the run.
+pub fn run(
+    heap: Global,
+    plan: &[u8],
+    mut outside: Outside<'_>,
+    shown: &mut Vec<Shown>,
+) -> Result<(), Ended> {
+    check(plan)?;
+    let view = View::new(plan);
+    let mut laid = Laid::new(heap, &view)?;
+    let mut world = laid.start();
+    let mut row = Vec::new(heap);
+    for time in 0..outside.most() {
+        if outside.is_over() {
+            break;
+        }
+        outside.take(view.partitions(), time, &mut row)?;
+        let (next, result) = world.tick(row.as_slice());
+        world = next;
+        match result {
+            Ok(Some(b)) => shown.push(b)?,
+            Ok(None) => {}
+            Err(_) => return Err(Ended::Refused(Refusal::Row(time as usize))),
         }
     }
     Ok(())
-}
-
-/// Runs a tick for each row; a row that is refused ends the run.
-pub fn run_rows(heap: Global, view: &View<'_>, rows: &[u8]) -> Result<Outcome, AllocError> {
-    let windows = windows_of(heap, view)?;
-    let pages = pages_of(heap, view)?;
-    let mut parts = parts_of(heap, view)?;
-    let mut channels = channels_of(heap, view)?;
-    let mut memory = memory_of(heap, view)?;
-    let mut shown = Vec::new(heap);
-    let mut arrivals = Vec::new(heap);
-    let mut refused = None;
-    let mut place = 0usize;
-    let mut world = World::start(
-        view.system(),
-        windows.as_slice(),
-        parts.as_mut_slice(),
-        pages.as_slice(),
-        memory.as_mut_slice(),
-        channels.as_mut_slice(),
-    );
-    for time in 0..rows.len() as u64 {
-        if place >= rows.len() {
-            break;
-        }
-        match row_end(rows, place, view.partitions(), time) {
-            Ok(end) => {
-                gather(&mut arrivals, &Row::new(rows, place, view.partitions()))?;
-                place = end;
-            }
-            Err(e) => {
-                refused = Some(e);
-                break;
-            }
-        }
-        let (next, result) = world.tick(arrivals.as_slice());
-        world = next;
-        if let Ok(Some(b)) = result {
-            shown.push(b)?;
-        }
-    }
-    Ok(Outcome { shown, refused })
 }

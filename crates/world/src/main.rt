@@ -1,10 +1,8 @@
 //! The model as a program to be run: prints what each partition shows, and when.
 #![tactic(auto)]
 
-use files::Outcome;
-use plan::check::check;
+use files::{Ended, Outside};
 use plan::refusal::Refusal;
-use plan::view::View;
 use reference::shown::Shown;
 use std::process::ExitCode;
 use std::{env, fs};
@@ -26,12 +24,10 @@ or 'refused N at P': the refusal's number and its place in the file. The status 
 /// digits.
 fn print_shown(rt: &HostRuntime, shown: &[Shown]) -> anyhow::Result<()> {
     for q in 0..32u8 {
-        for b in shown {
-            if b.partition == q {
-                let tick = b.tick;
-                let byte = b.byte;
-                println!(rt; "{q} at {tick}: {byte:02x}")?;
-            }
+        for b in shown.iter().filter(|b| b.partition == q) {
+            let tick = b.tick;
+            let byte = b.byte;
+            println!(rt; "{q} at {tick}: {byte:02x}")?;
         }
     }
     Ok(())
@@ -50,22 +46,6 @@ fn number_and_place(r: Refusal) -> (u8, usize) {
     }
 }
 
-fn print_refusal(rt: &HostRuntime, r: Refusal) -> anyhow::Result<bool> {
-    let (number, place) = number_and_place(r);
-    println!(rt; "refused {number} at {place}")?;
-    Ok(false)
-}
-
-/// Whether all was done.
-fn print_outcome(rt: &HostRuntime, outcome: Outcome) -> anyhow::Result<bool> {
-    let Outcome { shown, refused } = outcome;
-    print_shown(rt, shown.as_slice())?;
-    match refused {
-        None => Ok(true),
-        Some(r) => print_refusal(rt, r),
-    }
-}
-
 fn run_case(rt: &HostRuntime, case: &worked::Case) -> anyhow::Result<()> {
     let name = case.name;
     println!(rt; "{name}")?;
@@ -74,98 +54,74 @@ fn run_case(rt: &HostRuntime, case: &worked::Case) -> anyhow::Result<()> {
 }
 
 /// Runs the worked plans, each under its name.
-fn run_worked(rt: &HostRuntime) -> anyhow::Result<bool> {
-    run_case(rt, &worked::SHOWS_CLOCK)?;
-    run_case(rt, &worked::KEEPS_LAST)?;
-    run_case(rt, &worked::GOES_FIRST)?;
-    run_case(rt, &worked::HAS_ONE_PLACE)?;
-    Ok(true)
+fn run_worked(rt: &HostRuntime) -> anyhow::Result<ExitCode> {
+    for case in &worked::CASES {
+        run_case(rt, case)?;
+    }
+    Ok(ExitCode::SUCCESS)
 }
 
-fn with_rows(rt: &HostRuntime, plan: &[u8], rows: &[u8]) -> anyhow::Result<bool> {
-    match check(plan) {
-        Ok(()) => {
-            let view = View::new(plan);
-            let outcome = files::run_rows(rt.alloc(), &view, rows)?;
-            print_outcome(rt, outcome)
-        }
-        Err(r) => print_refusal(rt, r),
+/// Runs a plan, and prints what was shown, and the refusal if there is one.
+fn run(rt: &HostRuntime, plan: &[u8], outside: Outside<'_>) -> anyhow::Result<ExitCode> {
+    let mut shown = Vec::new(rt.alloc());
+    let end = files::run(rt.alloc(), plan, outside, &mut shown);
+    if let Err(Ended::Heap(e)) = end {
+        return Err(e.into());
     }
-}
-
-fn with_ticks(rt: &HostRuntime, plan: &[u8], ticks: u64) -> anyhow::Result<bool> {
-    match check(plan) {
-        Ok(()) => {
-            let view = View::new(plan);
-            let outcome = files::run_ticks(rt.alloc(), &view, ticks)?;
-            print_outcome(rt, outcome)
-        }
-        Err(r) => print_refusal(rt, r),
+    print_shown(rt, shown.as_slice())?;
+    if let Err(Ended::Refused(r)) = end {
+        let (number, place) = number_and_place(r);
+        println!(rt; "refused {number} at {place}")?;
+        return Ok(ExitCode::FAILURE);
     }
+    Ok(ExitCode::SUCCESS)
 }
 
 /// Wrong use: says what is wrong, and what to write.
-fn wrong(rt: &HostRuntime, what: &str, word: &str) -> anyhow::Result<bool> {
+fn wrong(rt: &HostRuntime, what: &str, word: &str) -> anyhow::Result<ExitCode> {
     eprintln!(rt; "world: {what}: {word}")?;
     eprintln!(rt; "{USAGE}")?;
-    Ok(false)
+    Ok(ExitCode::FAILURE)
 }
 
-fn on_rows(rt: &HostRuntime, plan: &str, rows: &str) -> anyhow::Result<bool> {
+fn on_rows(rt: &HostRuntime, plan: &str, rows: &str) -> anyhow::Result<ExitCode> {
     let Ok(bytes) = fs::read(rt, plan) else {
         return wrong(rt, "this plan cannot be read", plan);
     };
     let Ok(row_bytes) = fs::read(rt, rows) else {
         return wrong(rt, "these rows cannot be read", rows);
     };
-    with_rows(rt, bytes.as_slice(), row_bytes.as_slice())
+    run(rt, bytes.as_slice(), Outside::Rows(row_bytes.as_slice(), 0))
 }
 
-fn on_ticks(rt: &HostRuntime, plan: &str, number: &str) -> anyhow::Result<bool> {
+fn on_ticks(rt: &HostRuntime, plan: &str, number: &str) -> anyhow::Result<ExitCode> {
     let Ok(ticks) = number.parse::<u64>() else {
         return wrong(rt, "behind --ticks stands a number of ticks, not", number);
     };
     let Ok(bytes) = fs::read(rt, plan) else {
         return wrong(rt, "this plan cannot be read", plan);
     };
-    with_ticks(rt, bytes.as_slice(), ticks)
+    run(rt, bytes.as_slice(), Outside::Nothing(ticks))
 }
 
-/// Does what the words of the command say; whether all was done.
-fn start(rt: &HostRuntime, words: &[String]) -> anyhow::Result<bool> {
+/// Does what the words of the command say; its status is that of success where all was done.
+fn start(rt: &HostRuntime, words: &[String]) -> anyhow::Result<ExitCode> {
     match words {
         [a] if a.as_str() == "--worked" => run_worked(rt),
         [a] if a.as_str() == "--help" => {
             println!(rt; "{HELP}")?;
-            Ok(true)
+            Ok(ExitCode::SUCCESS)
         }
         [a, b] => on_rows(rt, a.as_str(), b.as_str()),
         [a, b, c] if b.as_str() == "--ticks" => on_ticks(rt, a.as_str(), c.as_str()),
         _ => {
             eprintln!(rt; "{USAGE}")?;
-            Ok(false)
+            Ok(ExitCode::FAILURE)
         }
     }
 }
 
-fn words_of(rt: &HostRuntime) -> anyhow::Result<Vec<String>> {
-    let mut words = Vec::new(rt.alloc());
-    for word in env::args(rt)?.skip(1) {
-        words.push(word)?;
-    }
-    Ok(words)
-}
-
-fn go(rt: &HostRuntime) -> anyhow::Result<bool> {
-    let words = words_of(rt)?;
-    start(rt, words.as_slice())
-}
-
 fn main(rt: HostRuntime) -> anyhow::Result<ExitCode> {
-    let done = go(&rt)?;
-    if done {
-        Ok(ExitCode::SUCCESS)
-    } else {
-        Ok(ExitCode::FAILURE)
-    }
+    let words: Vec<String> = env::args(&rt)?.skip(1).collect(rt.alloc())?;
+    start(&rt, words.as_slice())
 }

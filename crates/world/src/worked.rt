@@ -70,7 +70,7 @@ const ONE_BYTE: u32 = 0x0010_0613;
 const BYTE_AT_64: u32 = 0x0400_4503;
 
 /// Partition 0 shows the time, in each of its periods.
-pub const SHOWS_CLOCK: Case = Case {
+const SHOWS_CLOCK: Case = Case {
     name: "clock",
     first: &[CLOCK, ECALL, SHOW, ECALL, WAIT, ECALL],
     data: &[],
@@ -79,7 +79,7 @@ pub const SHOWS_CLOCK: Case = Case {
 };
 
 /// Partition 0 sends 7 into channel 0; partition 1 takes it, and shows how many ticks ago it was sent.
-pub const KEEPS_LAST: Case = Case {
+const KEEPS_LAST: Case = Case {
     name: "last",
     first: &[FROM_64, ONE_BYTE, SEND, ECALL, WAIT, ECALL],
     data: &[7],
@@ -88,7 +88,7 @@ pub const KEEPS_LAST: Case = Case {
 };
 
 /// Two tasks in partition 0 show their numbers; the second has the higher priority.
-pub const GOES_FIRST: Case = Case {
+const GOES_FIRST: Case = Case {
     name: "first",
     first: &[ECALL, WAIT, ECALL],
     data: &[],
@@ -111,7 +111,7 @@ pub const GOES_FIRST: Case = Case {
 
 /// Partition 0 sends 1 and 2 into channel 1, which has one place, and shows the answers; partition 1 takes twice, and shows
 /// the answers and the byte that came.
-pub const HAS_ONE_PLACE: Case = Case {
+const HAS_ONE_PLACE: Case = Case {
     name: "queue",
     first: &[
         CHANNEL_1, FROM_64, ONE_BYTE, SEND, ECALL, SHOW, ECALL, CHANNEL_1, FROM_65, SEND, ECALL,
@@ -125,11 +125,14 @@ pub const HAS_ONE_PLACE: Case = Case {
     ],
 };
 
+/// The worked plans, in the order in which they are run.
+pub const CASES: [Case; 4] = [SHOWS_CLOCK, KEEPS_LAST, GOES_FIRST, HAS_ONE_PLACE];
+
 /// Writes words into memory from an address on, as far as it goes.
 fn put_words(memory: &mut [u8], address: usize, words: &[u32]) {
     for (i, w) in words.iter().enumerate() {
         if address < memory.len() && i < (memory.len() - address) / 4 {
-            octets::write_u32(memory, address + 4 * i, *w);
+            octets::write(memory, address + 4 * i, *w);
         }
     }
 }
@@ -160,36 +163,20 @@ fn partition(tasks: &[Task]) -> Partition {
 /// How long a worked plan is run.
 const TICKS: usize = 400;
 
-/// What was shown, in the order of the ticks.
-fn gather(heap: Global, shown: &[Option<Shown>]) -> anyhow::Result<Vec<Shown>> {
-    let mut all = Vec::new(heap);
-    for b in shown {
-        if let Some(s) = *b {
-            all.push(s)?;
-        }
-    }
-    Ok(all)
+/// An empty channel from partition 0 to partition 1 with so many places.
+fn channel(places: u8) -> anyhow::Result<Queue> {
+    let plan = Channel {
+        from: 0,
+        to: 1,
+        bytes: 4,
+        places,
+    };
+    Queue::new(plan).ok_or_else(|| anyhow!("a channel is out of bounds"))
 }
 
-/// Runs a worked plan.
+/// Runs a worked plan: what was shown, in the order of the ticks.
 pub fn run(heap: Global, case: &Case) -> anyhow::Result<Vec<Shown>> {
-    let Some(last) = Queue::new(Channel {
-        from: 0,
-        to: 1,
-        bytes: 4,
-        places: 0,
-    }) else {
-        return Err(anyhow!("channel 0 is out of bounds"));
-    };
-    let Some(queue) = Queue::new(Channel {
-        from: 0,
-        to: 1,
-        bytes: 4,
-        places: 1,
-    }) else {
-        return Err(anyhow!("channel 1 is out of bounds"));
-    };
-    let mut channels = [last, queue];
+    let mut channels = [channel(0)?, channel(1)?];
     let mut parts = [partition(case.tasks), partition(&SECOND_TASK)];
     let mut memory = [0u8; 8192];
     fill(&mut memory, case);
@@ -201,5 +188,5 @@ pub fn run(heap: Global, case: &Case) -> anyhow::Result<Vec<Shown>> {
     if result.is_err() {
         return Err(anyhow!("the time is over"));
     }
-    gather(heap, &shown)
+    Ok(shown.iter().copied().flatten().collect(heap)?)
 }
