@@ -1,6 +1,6 @@
 -- Things in bytes: how one is read at a place, how it is written, and which are proper. Assumes nothing: these are
 -- definitions.
-use Rattle.std.specs.Prelude.{◌≡◌, ℕ, ◌+◌, ◌<◌, ◌≤◌, cond, ◌&&◌, List, [], ◌∷◌, ◌++◌, length, replicate, ◌==◌, nat_le, slice_index}
+use Rattle.std.specs.Prelude.{◌≡◌, ℕ, ◌+◌, ◌<◌, ◌≤◌, if◌then◌else◌, ◌&&◌, List, [], ◌∷◌, ◌++◌, length, replicate, ◌==◌, nat_le, slice_index}
 use Rattle.std.specs.List.{between}
 use Rattle.octets.specs.Bytes.{at, bytes_of}
 
@@ -36,9 +36,8 @@ number missing fault n lo hi =
     record {
       read =
           λ xs k.
-          cond (nat_le (k + n) (length xs))
-          (cond (nat_le lo (at n xs k) && nat_le (at n xs k) hi) (got (at n xs k) (k + n)) (refused fault k))
-          (refused missing (length xs));
+          if nat_le (k + n) (length xs) then (if nat_le lo (at n xs k) && nat_le (at n xs k) hi then got (at n xs k) (k + n) else refused fault k)
+          else refused missing (length xs);
       write = bytes_of n;
       Proper = λ v. (lo ≤ v) × (v ≤ hi);
     }
@@ -47,7 +46,7 @@ number missing fault n lo hi =
 abbrev pub raw : (missing n : ℕ) → Codec (List ℕ)
 raw missing n =
     record {
-      read = λ xs k. cond (nat_le (k + n) (length xs)) (got (between k (k + n) xs) (k + n)) (refused missing (length xs));
+      read = λ xs k. if nat_le (k + n) (length xs) then got (between k (k + n) xs) (k + n) else refused missing (length xs);
       write = λ ys. ys;
       Proper = λ ys. (length ys ≡ n) × Bytes ys;
     }
@@ -96,4 +95,4 @@ named to from c =
 
 -- A thing that is all of the bytes. Where they go on behind it, that is refused at the first too many.
 unfoldable pub whole : {A : Type 0} → ℕ → Codec A → List ℕ → Outcome A
-whole long c xs = follow (c.read xs 0) (λ a j. cond (j == length xs) (got a j) (refused long j))
+whole long c xs = follow (c.read xs 0) (λ a j. if j == length xs then got a j else refused long j)

@@ -1,6 +1,6 @@
 -- What each instruction does, where pc is its address, a and b are what the registers rs1 and rs2 hold, and memory has so
 -- many bytes. Assumes nothing: these are definitions.
-use Rattle.std.specs.Prelude.{◌≡◌, ℕ, ◌+◌, ◌-◌, ◌*◌, ◌%◌, ◌^◌, ◌≤◌, Bool, cond, ◌&&◌, ℤ, pos, ◌+ℤ◌, ◌==◌, nat_le}
+use Rattle.std.specs.Prelude.{◌≡◌, ℕ, ◌+◌, ◌-◌, ◌*◌, ◌%◌, ◌^◌, ◌≤◌, Bool, if◌then◌else◌, ◌&&◌, ℤ, pos, ◌+ℤ◌, ◌==◌, nat_le}
 use Rattle.decode.specs.declared.reg.Reg.{Reg}
 use Rattle.decode.specs.Fields.{reg_of}
 use Rattle.decode.specs.declared.instruction.Instruction.{Instruction}
@@ -23,10 +23,10 @@ inside n k size = k % n == 0 && nat_le (k + n) size
 
 -- A jump that keeps where the task would have gone on, and a branch that is taken: to an instruction, or wrong.
 abbrev pub jumps : Reg → ℕ → ℕ → ℕ → Effect
-jumps rd back target size = cond (inside 4 target size) (Sets rd back target) Wrong
+jumps rd back target size = if inside 4 target size then Sets rd back target else Wrong
 
 abbrev pub branches : ℕ → ℕ → Effect
-branches target size = cond (inside 4 target size) (Goes target) Wrong
+branches target size = if inside 4 target size then Goes target else Wrong
 
 -- The clauses, in the manual's order.
 abbrev pub effect : Instruction → (pc a b size : ℕ) → Effect
@@ -34,11 +34,11 @@ effect (Lui rd upper) pc a b size = Sets rd (upper * 2 ^ 12 % 2 ^ 32) (following
 effect (Auipc rd upper) pc a b size = Sets rd ((pc + upper * 2 ^ 12) % 2 ^ 32) (following pc)
 effect (Jal rd offset) pc a b size = jumps rd (following pc) (displaced pc offset) size
 effect (Jalr rd rs1 offset) pc a b size = jumps rd (following pc) (displaced a offset - displaced a offset % 2) size
-effect (Branch on rs1 rs2 offset) pc a b size = cond (taken on a b) (branches (displaced pc offset) size) (Goes (following pc))
+effect (Branch on rs1 rs2 offset) pc a b size = if taken on a b then branches (displaced pc offset) size else Goes (following pc)
 effect (Load kind rd rs1 offset) pc a b size =
-    cond (inside (load_bytes kind) (displaced a offset) size) (Loads rd kind (displaced a offset)) Wrong
+    if inside (load_bytes kind) (displaced a offset) size then Loads rd kind (displaced a offset) else Wrong
 effect (Store kind rs1 rs2 offset) pc a b size =
-    cond (inside (store_bytes kind) (displaced a offset) size) (Stores kind (displaced a offset) b) Wrong
+    if inside (store_bytes kind) (displaced a offset) size then Stores kind (displaced a offset) b else Wrong
 effect (Immediate op rd rs1 operand) pc a b size = Sets rd (with_immediate op a operand) (following pc)
 effect (Shift op rd rs1 amount) pc a b size = Sets rd (shifted op a amount) (following pc)
 effect (Register op rd rs1 rs2) pc a b size = Sets rd (with_register op a b) (following pc)

@@ -1,6 +1,6 @@
 -- The core as a machine: what the instruction at hand comes to, given the core and the memory. Assumes nothing: these
 -- are definitions.
-use Rattle.std.specs.Prelude.{ℕ, cond, List, length, Some, None, Option, ◌==◌, slice_index, slice_set}
+use Rattle.std.specs.Prelude.{ℕ, if◌then◌else◌, List, length, Some, None, Option, ◌==◌, slice_index, slice_set}
 use Rattle.octets.specs.Bytes.{at, bytes_of}
 use Rattle.decode.specs.declared.instruction.Instruction.{Instruction}
 use Rattle.decode.specs.Decoded.{decoded}
@@ -20,7 +20,7 @@ abbrev pub held : Core → ℕ → ℕ
 held c n = slice_index c.x n
 
 abbrev pub written : Core → ℕ → ℕ → Core
-written c n v = cond (n == 0) c (record { pc = c.pc; x = slice_set c.x n v })
+written c n v = if n == 0 then c else record { pc = c.pc; x = slice_set c.x n v }
 
 abbrev pub going : Core → ℕ → Core
 going c k = record { pc = k; x = c.x }
@@ -38,7 +38,7 @@ answered c (Message age long) = going_on (written (written c 10 age) 11 long)
 
 -- The word at the pc, if it lies in memory.
 abbrev pub fetched : Core → List ℕ → Option ℕ
-fetched c m = cond (inside 4 c.pc (length m)) (Some (at 4 m c.pc)) None
+fetched c m = if inside 4 c.pc (length m) then Some (at 4 m c.pc) else None
 
 -- The effect of the instruction of a word, where memory has so many bytes.
 abbrev pub effect_decoded : Core → Option Instruction → ℕ → Effect

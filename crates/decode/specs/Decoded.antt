@@ -1,5 +1,5 @@
 -- The instruction of a word, in two stages: first by its opcode, then by its functs. Assumes nothing: these are definitions.
-use Rattle.std.specs.Prelude.{ℕ, cond, Some, None, Option, ◌==◌}
+use Rattle.std.specs.Prelude.{ℕ, if◌then◌else◌, Some, None, Option, ◌==◌}
 use Rattle.decode.specs.declared.instruction.Instruction.{Instruction}
 use Rattle.decode.specs.declared.instruction.Instruction.TheVariants.{Lui, Auipc, Jal, Jalr, Branch, Load, Store, Immediate, Shift, Register, Fence, Ecall}
 use Rattle.decode.specs.declared.instruction.Condition.{Condition}
@@ -19,40 +19,57 @@ use Rattle.decode.specs.Fields.{opcode_of, rd_of, funct3_of, rs1_of, rs2_of, fun
 -- What funct3 says of a branch, a load, a store.
 abbrev pub condition_of : ℕ → Option Condition
 condition_of f =
-    cond (f == 0) (Some Beq) (cond (f == 1) (Some Bne) (cond (f == 4) (Some Blt) (cond (f == 5) (Some Bge)
-    (cond (f == 6) (Some Bltu) (cond (f == 7) (Some Bgeu) None)))))
+    if f == 0 then Some Beq
+    else if f == 1 then Some Bne
+    else if f == 4 then Some Blt
+    else if f == 5 then Some Bge
+    else if f == 6 then Some Bltu
+    else if f == 7 then Some Bgeu else None
 
 abbrev pub load_kind_of : ℕ → Option LoadKind
 load_kind_of f =
-    cond (f == 0) (Some Lb) (cond (f == 1) (Some Lh) (cond (f == 2) (Some Lw) (cond (f == 4) (Some Lbu)
-    (cond (f == 5) (Some Lhu) None))))
+    if f == 0 then Some Lb
+    else if f == 1 then Some Lh
+    else if f == 2 then Some Lw
+    else if f == 4 then Some Lbu
+    else if f == 5 then Some Lhu else None
 
 abbrev pub store_kind_of : ℕ → Option StoreKind
-store_kind_of f = cond (f == 0) (Some Sb) (cond (f == 1) (Some Sh) (cond (f == 2) (Some Sw) None))
+store_kind_of f = if f == 0 then Some Sb else if f == 1 then Some Sh else if f == 2 then Some Sw else None
 
 -- What funct3 says of an instruction with an immediate that is no shift.
 abbrev pub immediate_op_of : ℕ → Option ImmediateOp
 immediate_op_of f =
-    cond (f == 0) (Some Addi) (cond (f == 2) (Some Slti) (cond (f == 3) (Some Sltiu) (cond (f == 4) (Some Xori)
-    (cond (f == 6) (Some Ori) (cond (f == 7) (Some Andi) None)))))
+    if f == 0 then Some Addi
+    else if f == 2 then Some Slti
+    else if f == 3 then Some Sltiu
+    else if f == 4 then Some Xori
+    else if f == 6 then Some Ori
+    else if f == 7 then Some Andi else None
 
 -- What funct7 and funct3 say of a shift by an amount.
 abbrev pub shift_op_of : ℕ → ℕ → Option ShiftOp
 shift_op_of g f =
-    cond (g == 0) (cond (f == 1) (Some Slli) (cond (f == 5) (Some Srli) None))
-    (cond (g == 0x20) (cond (f == 5) (Some Srai) None) None)
+    if g == 0 then (if f == 1 then Some Slli else if f == 5 then Some Srli else None)
+    else if g == 0x20 then (if f == 5 then Some Srai else None) else None
 
 -- What they say of an instruction with two registers: by funct3 where funct7 is 0, and where it is 0x20.
 abbrev pub plain_op_of : ℕ → Option RegisterOp
 plain_op_of f =
-    cond (f == 0) (Some Add) (cond (f == 1) (Some Sll) (cond (f == 2) (Some Slt) (cond (f == 3) (Some Sltu)
-    (cond (f == 4) (Some Xor) (cond (f == 5) (Some Srl) (cond (f == 6) (Some Or) (cond (f == 7) (Some And) None)))))))
+    if f == 0 then Some Add
+    else if f == 1 then Some Sll
+    else if f == 2 then Some Slt
+    else if f == 3 then Some Sltu
+    else if f == 4 then Some Xor
+    else if f == 5 then Some Srl
+    else if f == 6 then Some Or
+    else if f == 7 then Some And else None
 
 abbrev pub other_op_of : ℕ → Option RegisterOp
-other_op_of f = cond (f == 0) (Some Sub) (cond (f == 5) (Some Sra) None)
+other_op_of f = if f == 0 then Some Sub else if f == 5 then Some Sra else None
 
 abbrev pub register_op_of : ℕ → ℕ → Option RegisterOp
-register_op_of g f = cond (g == 0) (plain_op_of f) (cond (g == 0x20) (other_op_of f) None)
+register_op_of g f = if g == 0 then plain_op_of f else if g == 0x20 then other_op_of f else None
 
 -- The second stage, for each class of opcodes.
 abbrev pub branch_with : ℕ → Option Condition → Option Instruction
@@ -80,29 +97,28 @@ register_with w None = None
 register_with w (Some op) = Some (Register op (rd_of w) (rs1_of w) (rs2_of w))
 
 abbrev pub jalr_with : ℕ → ℕ → Option Instruction
-jalr_with w f = cond (f == 0) (Some (Jalr (rd_of w) (rs1_of w) (immediate_i w))) None
+jalr_with w f = if f == 0 then Some (Jalr (rd_of w) (rs1_of w) (immediate_i w)) else None
 
 abbrev pub fence_with : ℕ → Option Instruction
-fence_with f = cond (f == 0) (Some Fence) None
+fence_with f = if f == 0 then Some Fence else None
 
 abbrev pub system_of : ℕ → Option Instruction
-system_of w = cond (w == 0x73) (Some Ecall) None
+system_of w = if w == 0x73 then Some Ecall else None
 
 -- The first stage.
 abbrev pub classed : ℕ → ℕ → Option Instruction
 classed w o =
-    cond (o == 0x37) (Some (Lui (rd_of w) (immediate_u w)))
-    (cond (o == 0x17) (Some (Auipc (rd_of w) (immediate_u w)))
-    (cond (o == 0x6f) (Some (Jal (rd_of w) (immediate_j w)))
-    (cond (o == 0x67) (jalr_with w (funct3_of w))
-    (cond (o == 0x63) (branch_with w (condition_of (funct3_of w)))
-    (cond (o == 0x03) (load_with w (load_kind_of (funct3_of w)))
-    (cond (o == 0x23) (store_with w (store_kind_of (funct3_of w)))
-    (cond (o == 0x13) (immediate_with w (immediate_op_of (funct3_of w)))
-    (cond (o == 0x33) (register_with w (register_op_of (funct7_of w) (funct3_of w)))
-    (cond (o == 0x0f) (fence_with (funct3_of w))
-    (cond (o == 0x73) (system_of w)
-    None))))))))))
+    if o == 0x37 then Some (Lui (rd_of w) (immediate_u w))
+    else if o == 0x17 then Some (Auipc (rd_of w) (immediate_u w))
+    else if o == 0x6f then Some (Jal (rd_of w) (immediate_j w))
+    else if o == 0x67 then jalr_with w (funct3_of w)
+    else if o == 0x63 then branch_with w (condition_of (funct3_of w))
+    else if o == 0x03 then load_with w (load_kind_of (funct3_of w))
+    else if o == 0x23 then store_with w (store_kind_of (funct3_of w))
+    else if o == 0x13 then immediate_with w (immediate_op_of (funct3_of w))
+    else if o == 0x33 then register_with w (register_op_of (funct7_of w) (funct3_of w))
+    else if o == 0x0f then fence_with (funct3_of w)
+    else if o == 0x73 then system_of w else None
 
 abbrev pub decoded : ℕ → Option Instruction
 decoded w = classed w (opcode_of w)

@@ -1,5 +1,5 @@
 -- The fields of a word, as the manual names them, and the immediates that they hold. Assumes nothing: these are definitions.
-use Rattle.std.specs.Prelude.{ℕ, ◌+◌, ◌*◌, ◌/◌, ◌%◌, ◌^◌, cond, ℤ, pos, ◌-ℤ◌, nat_lt}
+use Rattle.std.specs.Prelude.{ℕ, ◌+◌, ◌*◌, ◌/◌, ◌%◌, ◌^◌, if◌then◌else◌, ℤ, pos, ◌-ℤ◌, nat_lt}
 use Rattle.std.proofs.Common.{mod-lt, lit<}
 use Rattle.decode.specs.declared.reg.Reg.{Reg}
 
@@ -9,7 +9,7 @@ reg_of n = record { number = n % 32; below = mod-lt n {m = 32} (lit< tt) }
 
 -- Two's complement: what n stands for, where half is the weight of its highest bit, and that bit counts as negative.
 abbrev pub signed : ℕ → ℕ → ℤ
-signed half n = cond (nat_lt n half) (pos n) (pos n -ℤ pos (2 * half))
+signed half n = if nat_lt n half then pos n else pos n -ℤ pos (2 * half)
 
 abbrev pub opcode_of : ℕ → ℕ
 opcode_of w = w % 2 ^ 7

@@ -1,5 +1,5 @@
 -- What there is: plans, tasks under way, partitions, channels. Assumes nothing: these are definitions.
-use Rattle.std.specs.Prelude.{ℕ, ◌+◌, ◌-◌, ◌%◌, cond, List, [], ◌∷◌, Some, None, Option, nat_lt, slice_index_or}
+use Rattle.std.specs.Prelude.{ℕ, ◌+◌, ◌-◌, ◌%◌, if◌then◌else◌, List, [], ◌∷◌, Some, None, Option, nat_lt, slice_index_or}
 use Rattle.model.specs.declared.plan.Window.{Window}
 use Rattle.model.specs.declared.plan.Channel.{Channel}
 use Rattle.model.specs.declared.plan.Task.{Task}
@@ -64,7 +64,7 @@ round (w ∷ ws) = w.ticks + round ws
 -- Whose tick it is, t ticks into the round, where the first s ticks of each window are the system's.
 unfoldable pub turn_in : ℕ → List Window → ℕ → Option ℕ
 turn_in s [] t = None
-turn_in s (w ∷ ws) t = cond (nat_lt t w.ticks) (cond (nat_lt t s) None (Some w.partition)) (turn_in s ws (t - w.ticks))
+turn_in s (w ∷ ws) t = if nat_lt t w.ticks then (if nat_lt t s then None else Some w.partition) else turn_in s ws (t - w.ticks)
 
 unfoldable pub turn : Plan → ℕ → Option ℕ
 turn p t = turn_in p.system p.windows (t % round p.windows)

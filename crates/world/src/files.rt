@@ -11,7 +11,7 @@ use std::alloc::{AllocError, AllocFailed, Global};
 
 /// Why a run ends before all was done.
 #[derive(Drop)]
-pub enum Ended {
+pub(crate) enum Ended {
     /// The plan, or a row, is refused.
     Refused(Refusal),
     Heap(AllocError),
@@ -37,7 +37,7 @@ impl<T: Drop> From<AllocFailed<T>> for Ended {
 
 /// What comes from outside.
 #[derive(Clone, Copy)]
-pub enum Outside<'a> {
+pub(crate) enum Outside<'a> {
     /// Nothing, for so many ticks.
     Nothing(u64),
     /// A row of bytes for each tick, one behind the other; the next one begins at a place.
@@ -79,7 +79,7 @@ impl Outside<'_> {
 
 /// Runs a plan with what comes from outside, and adds what is shown, in the order of the ticks. A row that is refused ends
 /// the run.
-pub fn run(
+pub(crate) fn run(
     heap: Global,
     plan: &[u8],
     mut outside: Outside<'_>,

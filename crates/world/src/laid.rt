@@ -8,7 +8,7 @@ use std::alloc::{AllocError, Global};
 
 /// All that a computer is made of, which it is lent when it starts: the memories one after the other.
 #[derive(Drop)]
-pub struct Laid {
+pub(crate) struct Laid {
     system: u16,
     windows: Vec<Window>,
     parts: Vec<Partition>,
@@ -18,7 +18,7 @@ pub struct Laid {
 }
 
 impl Laid {
-    pub fn new(heap: Global, view: &View<'_>) -> Result<Laid, AllocError> {
+    pub(crate) fn new(heap: Global, view: &View<'_>) -> Result<Laid, AllocError> {
         let windows = (0..view.windows()).filter_map(|i| view.window(i));
         let parts = (0..view.partitions()).map(|q| partition_of(view, q));
         let pages = (0..view.partitions()).filter_map(|q| view.pages(q));
@@ -34,7 +34,7 @@ impl Laid {
     }
 
     /// The computer at its start.
-    pub fn start(&mut self) -> World<'_> {
+    pub(crate) fn start(&mut self) -> World<'_> {
         World::start(
             self.system,
             self.windows.as_slice(),
