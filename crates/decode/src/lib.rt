@@ -34,7 +34,9 @@ ghost use Rattle.decode.specs.Fields.{
   immediate_i,
   immediate_j,
   immediate_s,
-  reg_of,
+  rd_of,
+  rs1_of,
+  rs2_of,
   signed,
 };
 
@@ -59,15 +61,15 @@ fn by_opcode(word: u32) -> Option<Instruction>
 {
     match word % 128 {
         0x37 => Some(Instruction::Lui {
-            rd: register(word, 7),
+            rd: rd(word),
             upper: word >> 12,
         }),
         0x17 => Some(Instruction::Auipc {
-            rd: register(word, 7),
+            rd: rd(word),
             upper: word >> 12,
         }),
         0x6f => Some(Instruction::Jal {
-            rd: register(word, 7),
+            rd: rd(word),
             offset: immediate_j(word),
         }),
         0x67 => jalr(word),
@@ -82,12 +84,23 @@ fn by_opcode(word: u32) -> Option<Instruction>
     }
 }
 
-/// The register whose number stands from a bit on.
-fn register(word: u32, from: u32) -> Reg
-    requires { from < 32 }
-    ensures value { result ≡ reg_of (word / 2 ^ from) }
+/// The registers that a word names, each by where its number stands.
+fn rd(word: u32) -> Reg
+    ensures value { result ≡ rd_of word }
 {
-    Reg::of(word >> from)
+    Reg::of(word >> 7)
+}
+
+fn rs1(word: u32) -> Reg
+    ensures value { result ≡ rs1_of word }
+{
+    Reg::of(word >> 15)
+}
+
+fn rs2(word: u32) -> Reg
+    ensures value { result ≡ rs2_of word }
+{
+    Reg::of(word >> 20)
 }
 
 /// What tells apart the instructions of an opcode.
@@ -158,8 +171,8 @@ fn jalr(word: u32) -> Option<Instruction>
     ensures value { result ≡ jalr_with word (funct3_of word) }
 {
     (funct3(word) == 0).then_some(Instruction::Jalr {
-        rd: register(word, 7),
-        rs1: register(word, 15),
+        rd: rd(word),
+        rs1: rs1(word),
         offset: immediate_i(word),
     })
 }
@@ -185,8 +198,8 @@ fn branch(word: u32) -> Option<Instruction>
     let on = condition(funct3(word))?;
     Some(Instruction::Branch {
         on,
-        rs1: register(word, 15),
-        rs2: register(word, 20),
+        rs1: rs1(word),
+        rs2: rs2(word),
         offset: immediate_b(word),
     })
 }
@@ -211,8 +224,8 @@ fn load(word: u32) -> Option<Instruction>
     let kind = load_kind(funct3(word))?;
     Some(Instruction::Load {
         kind,
-        rd: register(word, 7),
-        rs1: register(word, 15),
+        rd: rd(word),
+        rs1: rs1(word),
         offset: immediate_i(word),
     })
 }
@@ -235,8 +248,8 @@ fn store(word: u32) -> Option<Instruction>
     let kind = store_kind(funct3(word))?;
     Some(Instruction::Store {
         kind,
-        rs1: register(word, 15),
-        rs2: register(word, 20),
+        rs1: rs1(word),
+        rs2: rs2(word),
         offset: immediate_s(word),
     })
 }
@@ -262,8 +275,8 @@ fn immediate(word: u32) -> Option<Instruction>
     match immediate_op(funct3(word)) {
         Some(op) => Some(Instruction::Immediate {
             op,
-            rd: register(word, 7),
-            rs1: register(word, 15),
+            rd: rd(word),
+            rs1: rs1(word),
             operand: immediate_i(word),
         }),
         None => shift(word),
@@ -287,8 +300,8 @@ fn shift(word: u32) -> Option<Instruction>
     let op = shift_op(funct7(word), funct3(word))?;
     Some(Instruction::Shift {
         op,
-        rd: register(word, 7),
-        rs1: register(word, 15),
+        rd: rd(word),
+        rs1: rs1(word),
         amount: (word >> 20) % 32,
     })
 }
@@ -336,9 +349,9 @@ fn registers(word: u32) -> Option<Instruction>
     let op = register_op(funct7(word), funct3(word))?;
     Some(Instruction::Register {
         op,
-        rd: register(word, 7),
-        rs1: register(word, 15),
-        rs2: register(word, 20),
+        rd: rd(word),
+        rs1: rs1(word),
+        rs2: rs2(word),
     })
 }
 
