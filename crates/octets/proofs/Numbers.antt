@@ -1,5 +1,5 @@
 -- Numbers in bytes, one byte at a time, and back.
-use Rattle.std.proofs.Common.{◌≡◌, ℕ, zero, suc, ◌+◌, ◌-◌, ◌*◌, ◌/◌, ◌%◌, ◌^◌, ◌<◌, List, [], ◌∷◌, length, get_or, take, drop, sym, refl, ap, ◌∙◌, pow-suc, lit<, arith}
+use Rattle.std.proofs.Common.{◌≡◌, ℕ, zero, suc, ◌+◌, ◌-◌, ◌*◌, ◌/◌, ◌%◌, ◌^◌, ◌<◌, ◌≤◌, List, [], ◌∷◌, length, get_or, take, drop, sym, refl, ap, ◌∙◌, pow-suc, lit<, arith}
 use Rattle.std.proofs.Math.Arith.{mod-mul}
 use native.Mathlib.Nat.{mod-add-div, div-div-eq-div-mul}
 use Rattle.std.proofs.lemmas.List.{drop_more, take_all}
@@ -57,10 +57,19 @@ bytes_of-mod (suc n) v =
     let high : v % 256 ^ suc n / 256 ≡ v / 256 % 256 ^ n = omega arith in
     ap (λ x. x ∷ bytes_of n (v % 256 ^ suc n / 256)) low ∙ ap (λ x. v % 256 ∷ x) (ap (bytes_of n) high ∙ bytes_of-mod n (v / 256))
 
--- All of a row is its part from the front on.
-pub number_is-at : (n : ℕ) (bs : List ℕ) → length bs ≡ n → number bs ≡ at n bs 0
+-- So many bytes from place k on, each with its weight.
+abbrev pub weighed : ℕ → List ℕ → ℕ → ℕ
+weighed zero xs k = 0
+weighed (suc n) xs k = get_or xs k 0 + 256 * weighed n xs (k + 1)
+
+pub at_weighed : (n : ℕ) (xs : List ℕ) (k : ℕ) → k + n ≤ length xs → at n xs k ≡ weighed n xs k
+at_weighed zero xs k h = at_none xs k
+at_weighed (suc n) xs k h = omega (arith, at_more n xs k (k + 1) refl (omega arith), at_weighed n xs (k + 1) (omega arith))
+
+pub number_weighed : (n : ℕ) (bs : List ℕ) → length bs ≡ n → number bs ≡ weighed n bs 0
 unfolding at
-number_is-at n bs e = ap number (sym (between_from_start bs (0 + n) ∙ take_all (0 + n) bs (omega arith)))
+number_weighed n bs e =
+    ap number (sym (between_from_start bs (0 + n) ∙ take_all (0 + n) bs (omega arith))) ∙ at_weighed n bs 0 (omega arith)
 
 -- The bytes of a number as the machine writes them.
 pub bytes_of_2 : (v : ℕ) → v % 256 ∷ v / 256 % 256 ∷ [] ≡ bytes_of 2 v
