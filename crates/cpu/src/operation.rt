@@ -36,6 +36,8 @@ pub fn displace(k: u32, offset: i32) -> u32
     k.wrapping_add(bits_of(offset))
 }
 
+// What the registers rs1 and rs2 hold are two numbers, as in the manual: a struct of both would say no more.
+
 /// Whether a branch is taken.
 pub fn holds(on: Condition, a: u32, b: u32) -> bool
     ensures value { result ≡ taken on a b }

@@ -6,6 +6,9 @@ ghost use Rattle.model.specs.Promise.{TickSeparates, Separates, BackIsNeeded, Sh
 ghost use Rattle.model.specs.Promise.{MemoriesKeepLength, RunSeparates, StoresWithin, FirstReady, WholeIsSame};
 ghost use Rattle.model.specs.Samples.{sharing, TurnsAre, turn_table, RoundForEver, late_twice, SenderShows};
 
+// Each of these stays beside the one over every core: it is what an office signs, at the core that runs, and its check can
+// be asked for by name. No code calls either.
+
 /// From any state on: worlds that agree on a closed set of partitions agree on it after a tick, whatever the others are.
 pub fn tick_separates() -> u8
     ensures { TickSeparates rv32i }

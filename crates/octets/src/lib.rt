@@ -115,6 +115,8 @@ impl Number for u64 {
     }
 }
 
+// A slice and an index, as in `b[k]`: a struct of both would be made and taken apart again at each call.
+
 /// The number in the bytes from `k` on.
 pub fn read<N: Number>(b: &[u8], k: usize) -> N
     requires { k + N.SIZE ≤ length b.now }
