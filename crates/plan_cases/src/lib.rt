@@ -5,7 +5,6 @@
 #[cfg(test)]
 mod tests {
     use plan::check::check as check_plan;
-    use plan::refusal::Refusal;
     use plan::rows::row_end;
     use std::alloc::{AllocError, Global};
     use std::process::Abort;
@@ -188,22 +187,10 @@ mod tests {
         Ok(all)
     }
 
-    fn number_and_place(r: Refusal) -> (u8, usize) {
-        match r {
-            Refusal::Short(p) => (1, p),
-            Refusal::Long(p) => (1, p),
-            Refusal::Name => (2, 0),
-            Refusal::Number(p) => (3, p),
-            Refusal::Frames(p) => (4, p),
-            Refusal::Row(p) => (5, p),
-            Refusal::Shown(p) => (6, p),
-        }
-    }
-
     fn told(plan: &[u8]) -> (u8, usize) {
         match check_plan(plan) {
             Ok(()) => (0, 0),
-            Err(r) => number_and_place(r),
+            Err(r) => (r.number(), r.place()),
         }
     }
 
@@ -281,13 +268,7 @@ mod tests {
 
     // A row at a place of rows for two partitions, at a time; its end, or its refusal's place.
     fn row(rows: &[u8], k: usize, time: u64) -> Result<usize, usize> {
-        match row_end(rows, k, 2, time) {
-            Ok(end) => Ok(end),
-            Err(r) => {
-                let (_, place) = number_and_place(r);
-                Err(place)
-            }
-        }
+        row_end(rows, k, 2, time).map_err(|r| r.place())
     }
 
     #[test]

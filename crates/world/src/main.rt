@@ -2,7 +2,6 @@
 #![tactic(auto)]
 
 use files::{Ended, Outside};
-use plan::refusal::Refusal;
 use reference::shown::Shown;
 use std::process::ExitCode;
 use std::{env, fs};
@@ -33,19 +32,6 @@ fn print_shown(rt: &HostRuntime, shown: &[Shown]) -> anyhow::Result<()> {
     Ok(())
 }
 
-/// A refusal's number and place.
-fn number_and_place(r: Refusal) -> (u8, usize) {
-    match r {
-        Refusal::Short(p) => (1, p),
-        Refusal::Long(p) => (1, p),
-        Refusal::Name => (2, 0),
-        Refusal::Number(p) => (3, p),
-        Refusal::Frames(p) => (4, p),
-        Refusal::Row(p) => (5, p),
-        Refusal::Shown(p) => (6, p),
-    }
-}
-
 fn run_case(rt: &HostRuntime, case: &worked::Case) -> anyhow::Result<()> {
     let name = case.name;
     println!(rt; "{name}")?;
@@ -70,8 +56,7 @@ fn run(rt: &HostRuntime, plan: &[u8], outside: Outside<'_>) -> anyhow::Result<Ex
     }
     print_shown(rt, shown.as_slice())?;
     if let Err(Ended::Refused(r)) = end {
-        let (number, place) = number_and_place(r);
-        println!(rt; "refused {number} at {place}")?;
+        println!(rt; "{r}")?;
         return Ok(ExitCode::FAILURE);
     }
     Ok(ExitCode::SUCCESS)
