@@ -1,6 +1,7 @@
 pub mod Lawfulness
 pub mod Bounded
 pub mod Walk
+pub mod Nth
 pub mod Opened
 pub mod Exact
 pub mod Arrivals

@@ -1,91 +1,44 @@
 -- Bytes that were taken, part by part.
-use Rattle.std.proofs.Common.{◌≡◌, ℕ, zero, suc, ◌+◌, ◌-◌, ◌*◌, ◌/◌, ◌<◌, ◌≤◌, true, false, eqb, leb, List, [], ◌∷◌, map, length, get_or, take, drop, is_ok, Some, None, Ok, Err, Result, sym, refl, ap, ◌∙◌, arith}
+use Rattle.std.proofs.Common.{◌≡◌, ℕ, zero, suc, ◌+◌, ◌-◌, ◌*◌, ◌/◌, ◌<◌, ◌≤◌, true, false, eqb, leb, List, [], ◌∷◌, map, length, get_or, take, drop, is_ok, Some, Ok, Err, Result, sym, refl, ap, subst, ◌∙◌, ⊎_elim, arith}
 use Rattle.std.specs.List.{between, slice_get}
-use Rattle.std.specs.Result.{result_ok}
-use Rattle.std.proofs.lemmas.Bool.{leb-true, eqb-true, both_ways}
-use Rattle.std.proofs.lemmas.Option.{slice_get-get_or, slice_get_past}
+use Rattle.std.proofs.lemmas.Bool.{leb-true, eqb-true, both_ways, cases_lt}
+use Rattle.std.proofs.lemmas.Option.{slice_get-get_or}
 use Rattle.std.proofs.lemmas.List.{length-map, length-take, length-drop, get_or-map}
-use Rattle.codec.specs.Codec.{Outcome, got, refused, follow, map_out, Codec, read_each, each, times, chain, ◌▸◌, whole}
+use Rattle.codec.specs.Codec.{Outcome, got, refused, follow, map_out, read_each, each, times, chain, ◌▸◌, whole}
 use Rattle.codec.proofs.Outcomes.{never, got_value, got_place, follow_got, map-got, cond_got, chain_got}
-use Rattle.codec.proofs.Sizes.{Sized, number_sized, chain_sized, named_sized, times_length, times_sized, times_item, times_at, each_length}
+use Rattle.codec.proofs.Sizes.{times_length, times_sized, times_item, each_length}
 use Rattle.model.specs.declared.plan.Window.{Window}
 use Rattle.model.specs.declared.plan.Channel.{Channel}
 use Rattle.model.specs.declared.plan.Task.{Task}
 use Rattle.plan.specs.declared.refusal.Refusal.{Refusal}
-use Rattle.plan.specs.declared.reach.Reach.{Reach}
 use Rattle.plan.specs.declared.head.Header.{Header}
 use Rattle.plan.specs.declared.head.PartHead.{PartHead}
 use Rattle.plan.specs.Refusals.{told, number_of, place_of}
-use Rattle.plan.specs.Ends.{seen, ended, reached, pages_of}
-use Rattle.plan.specs.Layout.{Image, Part, Body, field, header, window, channel, task, part_head, partition, memory, body, to_image, image, read_plan}
-use Rattle.plan.specs.Taken.{was_read, accepts, image_or, image_in, pages_in}
+use Rattle.plan.specs.Ends.{seen, pages_of}
+use Rattle.plan.specs.Layout.{Image, Part, Body, header, window, channel, task, part_head, partition, memory, body, to_image, image, read_plan}
+use Rattle.plan.specs.Sizes.{window_size, channel_size, part_head_size, header_size}
+use Rattle.plan.specs.Taken.{was_read, things, accepts, image_or, image_in, pages_in}
+use Rattle.plan.specs.Places.{channels_from, parts_from, IsPart}
+use Rattle.plan.proofs.Nth.{told_ok}
 use Rattle.plan.proofs.Walk.{stop_header}
 
--- What the code answers where reading went well.
-pub told_ok : {A : Type 0} (r : Result A Refusal) (o : Outcome A) (j i : ℕ) (a : A) → told j r ≡ o → o ≡ got a i → r ≡ Ok a
-told_ok (Ok x) o j i a e g = ap Ok (got_value (e ∙ g))
-told_ok (Err x) o j i a e g = absurd (never (e ∙ g))
-
-pub ended_ok : {A : Type 0} (r : Result ℕ Refusal) (o : Outcome A) (i : ℕ) (a : A) → ended r ≡ seen o → o ≡ got a i → r ≡ Ok i
-ended_ok (Ok x) o i a e g = ap Ok (got_place (e ∙ ap seen g))
-ended_ok (Err x) o i a e g = absurd (never (e ∙ ap seen g))
-
-pub reached_ok :
-    {A : Type 0} (r : Result Reach Refusal) (o : Outcome A) (f : A → ℕ) (i : ℕ) (a : A) → reached r ≡ map_out f o → o ≡ got a i → r ≡ Ok (record { pages = f a; «end» = i })
-reached_ok (Ok x) o f i a e g =
-    let v : x.pages ≡ f a = got_value (e ∙ ap (map_out f) g) in
-    let p : x.«end» ≡ i = got_place (e ∙ ap (map_out f) g) in
-    λ j. Ok (record { pages = v j; «end» = p j })
-reached_ok (Err x) o f i a e g = absurd (never (e ∙ ap (map_out f) g))
-
-ok_end : (r : Result Reach Refusal) (a b : Reach) → r ≡ Ok a → r ≡ Ok b → a.«end» ≡ b.«end»
-ok_end r a b e f = let s : a ≡ b = cc in ap (λ (x : Reach). x.«end») s
-
-was_read_lem : (o : Outcome Image) (d : Image) → was_read o ≡ true → (j : ℕ) × (o ≡ got (image_or d o) j)
-was_read_lem (got i j) d e = (j, refl)
-was_read_lem (refused n p) d e = absurd (both_ways false refl e)
+was_image : (o : Outcome Image) (d : Image) → was_read o ≡ true → (j : ℕ) × (o ≡ got (image_or d o) j)
+was_image (got i j) d e = (j, refl)
+was_image (refused n p) d e = absurd (both_ways false refl e)
 
 pub accepted : (xs : List ℕ) → accepts xs ≡ true → (j : ℕ) × (read_plan xs ≡ got (image_in xs) j)
 unfolding accepts image_in
-accepted xs ok = was_read_lem (read_plan xs) _ ok
+accepted xs ok = was_image (read_plan xs) _ ok
 
-pub header_ok : (xs : List ℕ) → accepts xs ≡ true → (r : Result Header Refusal) → told 10 r ≡ header.read xs 0 → is_ok r ≡ true
-header_ok xs ok (Ok h) e = refl
-header_ok xs ok (Err x) e = absurd (never (stop_header xs (number_of x) (place_of x) e ∙ ap seen (accepted xs ok).1))
+pub header_ok : (xs : List ℕ) → accepts xs ≡ true → (j : ℕ) (r : Result Header Refusal) → told j r ≡ header.read xs 0 → is_ok r ≡ true
+header_ok xs ok j (Ok h) e = refl
+header_ok xs ok j (Err x) e = absurd (never (stop_header xs (number_of x) (place_of x) e ∙ ap seen (accepted xs ok).1))
 
-behind_sized : {A B : Type 0} (c : Codec A) (d : Codec B) (m n : ℕ) → Sized c m → Sized d n → Sized (c ▸ d) (m + n)
-behind_sized c d m n sc sd = chain_sized c (λ a. d) m n sc (λ a. sd)
+-- The header's place behind it.
+pub header_at : (xs : List ℕ) (h : Header) (j : ℕ) → got h j ≡ header.read xs 0 → got h 10 ≡ header.read xs 0
+header_at xs h j e = ap (got h) (sym (header_size.ends xs 0 j h (sym e))) ∙ e
 
-field_sized : (n lo hi : ℕ) → Sized (field n lo hi) n
-field_sized n lo hi = number_sized 1 3 n lo hi
-
-pub window_sized : (s n : ℕ) → Sized (window s n) 5
-window_sized s n =
-    named_sized (λ t. record { partition = t.0; ticks = t.1 }) (λ w. (w.partition, w.ticks)) (field 1 0 (n - 1) ▸ field 4 (s + 1) 1000000) 5
-    (behind_sized (field 1 0 (n - 1)) (field 4 (s + 1) 1000000) 1 4 (field_sized 1 0 (n - 1)) (field_sized 4 (s + 1) 1000000))
-
-pub channel_sized : (n : ℕ) → Sized (channel n) 5
-channel_sized n =
-    let p = field 1 0 (n - 1) in
-    let b = field 2 0 1024 in
-    let q = field 1 0 64 in
-    named_sized (λ t. record { from = t.0; to = t.1.0; bytes = t.1.1.0; places = t.1.1.1 }) (λ c. (c.from, (c.to, (c.bytes, c.places)))) (p ▸ p ▸ b ▸ q) 5
-    (behind_sized p (p ▸ b ▸ q) 1 4 (field_sized 1 0 (n - 1))
-    (behind_sized p (b ▸ q) 1 3 (field_sized 1 0 (n - 1)) (behind_sized b q 2 1 (field_sized 2 0 1024) (field_sized 1 0 64))))
-
-part_head_sized : Sized part_head 3
-part_head_sized =
-    named_sized (λ t. record { pages = t.0; tasks = t.1 }) (λ h. (h.pages, h.tasks)) (field 2 1 256 ▸ field 1 0 16) 3
-    (behind_sized (field 2 1 256) (field 1 0 16) 2 1 (field_sized 2 1 256) (field_sized 1 0 16))
-
--- Where the channels begin, and where the partitions' parts do.
-abbrev pub channels_from : Header → ℕ
-channels_from h = 10 + 5 * h.windows
-
-abbrev pub parts_from : Header → ℕ
-parts_from h = 10 + 5 * h.windows + 5 * h.channels
-
-pub record Opened (xs : List ℕ) (h : Header) : Type 0 where
+record Opened (xs : List ℕ) (h : Header) : Type 0 where
   pub ws : List Window
   pub cs : List Channel
   pub ps : List Part
@@ -106,9 +59,9 @@ body_opened xs h b j ej e is =
     let p = chain_got W (λ ws. C ▸ chain P (each memory)) xs 10 j b e in
     let q = chain_got C (λ cs. chain P (each memory)) xs p.1 j p.2 p.4 in
     let r = chain_got P (each memory) xs q.1 j q.2 q.4 in
-    let ew : p.1 ≡ channels_from h = times_sized (window h.system h.partitions) xs 5 (window_sized h.system h.partitions) h.windows 10 p.1 p.0 p.3 in
+    let ew : p.1 ≡ channels_from h = times_sized (window h.system h.partitions) xs 5 (window_size h.system h.partitions).ends h.windows 10 p.1 p.0 p.3 in
     let ec : q.1 ≡ parts_from h =
-    times_sized (channel h.partitions) xs 5 (channel_sized h.partitions) h.channels p.1 q.1 q.0 q.3 ∙ ap (λ n. n + 5 * h.channels) ew in
+    times_sized (channel h.partitions) xs 5 (channel_size h.partitions).ends h.channels p.1 q.1 q.0 q.3 ∙ ap (λ n. n + 5 * h.channels) ew in
     record {
       ws = p.0;
       cs = q.0;
@@ -123,7 +76,7 @@ body_opened xs h b j ej e is =
           ap (λ t. to_image (h, (p.0, (q.0, t)))) r.5 ∙ ap (λ t. to_image (h, (p.0, t))) q.5 ∙ ap (λ t. to_image (h, t)) p.5 ∙ is;
     }
 
-pub opened : (xs : List ℕ) → accepts xs ≡ true → (h : Header) → got h 10 ≡ header.read xs 0 → Opened xs h
+opened : (xs : List ℕ) → accepts xs ≡ true → (h : Header) → got h 10 ≡ header.read xs 0 → Opened xs h
 unfolding read_plan whole image
 opened xs ok h eh =
     let a = accepted xs ok in
@@ -134,13 +87,13 @@ opened xs ok h eh =
     body_opened xs h b.0 w.1 (eqb-true w.1 (length xs) t.0) b.1 (ap to_image b.2 ∙ m.2 ∙ got_value t.1)
 
 -- A partition's part: what it begins with, and its tasks behind that.
-pub part_read :
+part_read :
     (xs : List ℕ) (k j : ℕ) (p : Part) → partition.read xs k ≡ got p j
     → (g : PartHead) × (part_head.read xs k ≡ got g (k + 3)) × ((times g.tasks task).read xs (k + 3) ≡ got p.tasks j) × (g.pages ≡ p.pages)
 part_read xs k j p e =
     let m = map-got _ ((chain part_head (λ g. times g.tasks task)).read xs k) p j e in
     let q = chain_got part_head (λ g. times g.tasks task) xs k j m.0 m.1 in
-    let at : q.1 ≡ k + 3 = part_head_sized xs k q.1 q.0 q.3 in
+    let at : q.1 ≡ k + 3 = part_head_size.ends xs k q.1 q.0 q.3 in
     let same : record { pages = q.0.pages; tasks = q.2 } ≡ p = ap (λ t. record { pages = t.0.pages; tasks = t.1 }) q.5 ∙ m.2 in (
       q.0,
       q.3 ∙ ap (got q.0) at,
@@ -148,14 +101,11 @@ part_read xs k j p e =
       ap (λ (x : Part). x.pages) same,
     )
 
-abbrev pub no_task : Task
-no_task = record { priority = 0; period = 0; deadline = 0; lates = 0 }
-
-abbrev pub no_part : Part
+abbrev no_part : Part
 no_part = record { pages = 0; tasks = [] }
 
 -- A partition's memory lies behind those before it.
-pub memory_at :
+memory_at :
     (ps : List Part) (q : ℕ) (xs : List ℕ) (k j : ℕ) (ms : List (List ℕ)) → q < length ps → (each memory ps).read xs k ≡ got ms j
     → (get_or ms q [] ≡ between (k + 4096 * pages_of (take q ps)) (k + 4096 * pages_of (take q ps) + 4096 * (get_or ps q no_part).pages) xs)
     × (k + 4096 * pages_of (take q ps) + 4096 * (get_or ps q no_part).pages ≤ length xs)
@@ -181,28 +131,37 @@ memory_at (p ∷ ps) (suc q) xs k j ms h e =
       omega (arith, r.1, i),
     )
 
--- What the code found of the parts before one.
-pub before_place :
-    (r : Result Reach Refusal) (a : Reach) (q : ℕ) (xs : List ℕ) (k : ℕ) (h : Header) → k ≡ parts_from h → r ≡ Ok a
-    → reached r ≡ map_out pages_of ((times q partition).read xs k) → got a.pages a.«end» ≡ map_out pages_of ((times q partition).read xs (parts_from h))
-before_place r a q xs k h ek er e = ap reached (sym er) ∙ e ∙ ap (λ n. map_out pages_of ((times q partition).read xs n)) ek
+-- What a view's header says, and what lies behind it, is the plan that the bytes are.
+module _ (xs : List ℕ) (ok : accepts xs ≡ true) (h : Header) (eh : got h 10 ≡ header.read xs 0) where
+  o : Opened xs h
+  o = opened xs ok h eh
 
--- What a view's accessors answer.
-module _ (xs : List ℕ) (h : Header) (o : Opened xs h) where
   pub system_is : h.system ≡ (image_in xs).plan.system
   system_is = ap (λ i. i.plan.system) o.is
 
-  pub windows_are : o.ws ≡ (image_in xs).plan.windows
+  windows_are : o.ws ≡ (image_in xs).plan.windows
   windows_are = ap (λ i. i.plan.windows) o.is
 
-  pub channels_are : o.cs ≡ (image_in xs).plan.channels
+  channels_are : o.cs ≡ (image_in xs).plan.channels
   channels_are = ap (λ i. i.plan.channels) o.is
 
-  pub tasks_are : map (λ p. p.tasks) o.ps ≡ (image_in xs).plan.tasks
+  tasks_are : map (λ p. p.tasks) o.ps ≡ (image_in xs).plan.tasks
   tasks_are = ap (λ i. i.plan.tasks) o.is
 
-  pub memories_are : o.ms ≡ (image_in xs).memories
+  memories_are : o.ms ≡ (image_in xs).memories
   memories_are = ap (λ i. i.memories) o.is
+
+  pub windows_there : was_read ((times h.windows (window h.system h.partitions)).read xs 10) ≡ true
+  windows_there = ap was_read o.windows
+
+  pub windows_read : things ((times h.windows (window h.system h.partitions)).read xs 10) ≡ (image_in xs).plan.windows
+  windows_read = ap things o.windows ∙ windows_are
+
+  pub channels_there : was_read ((times h.channels (channel h.partitions)).read xs (channels_from h)) ≡ true
+  channels_there = ap was_read o.channels
+
+  pub channels_read : things ((times h.channels (channel h.partitions)).read xs (channels_from h)) ≡ (image_in xs).plan.channels
+  channels_read = ap things o.channels ∙ channels_are
 
   pub many_windows : h.windows ≡ length (image_in xs).plan.windows
   many_windows = sym (times_length (window h.system h.partitions) xs h.windows 10 _ o.ws o.windows) ∙ ap length windows_are
@@ -210,31 +169,11 @@ module _ (xs : List ℕ) (h : Header) (o : Opened xs h) where
   pub many_channels : h.channels ≡ length (image_in xs).plan.channels
   many_channels = sym (times_length (channel h.partitions) xs h.channels _ _ o.cs o.channels) ∙ ap length channels_are
 
-  pub many_parts : h.partitions ≡ length o.ps
+  many_parts : h.partitions ≡ length o.ps
   many_parts = sym (times_length partition xs h.partitions _ _ o.ps o.parts)
 
   pub many_partitions : h.partitions ≡ length (image_in xs).plan.tasks
   many_partitions = many_parts ∙ sym (length-map o.ps (λ p. p.tasks)) ∙ ap length tasks_are
-
-  pub window_is :
-      (i k : ℕ) (r : Result Window Refusal) → i < h.windows → 10 + 5 * i ≡ k → told (k + 5) r ≡ (window h.system h.partitions).read xs k
-      → result_ok r ≡ slice_get (image_in xs).plan.windows i
-  window_is i k r lt ek e =
-      let d : Window = record { partition = 0; ticks = 0 } in
-      let W = window h.system h.partitions in
-      ap result_ok (told_ok r (W.read xs k) (k + 5) _ _ e (ap (W.read xs) (sym ek) ∙ times_at W xs 5 (window_sized h.system h.partitions) h.windows i 10 _ o.ws d lt o.windows))
-      ∙ sym (slice_get-get_or o.ws i d (omega (arith, many_windows, ap length windows_are)))
-      ∙ ap (λ l. slice_get l i) windows_are
-
-  pub channel_is :
-      (i k : ℕ) (r : Result Channel Refusal) → i < h.channels → channels_from h + 5 * i ≡ k → told (k + 5) r ≡ (channel h.partitions).read xs k
-      → result_ok r ≡ slice_get (image_in xs).plan.channels i
-  channel_is i k r lt ek e =
-      let d : Channel = record { from = 0; to = 0; bytes = 0; places = 0 } in
-      let C = channel h.partitions in
-      ap result_ok (told_ok r (C.read xs k) (k + 5) _ _ e (ap (C.read xs) (sym ek) ∙ times_at C xs 5 (channel_sized h.partitions) h.channels i (channels_from h) _ o.cs d lt o.channels))
-      ∙ sym (slice_get-get_or o.cs i d (omega (arith, many_channels, ap length channels_are)))
-      ∙ ap (λ l. slice_get l i) channels_are
 
   pub many_memories : length (image_in xs).memories ≡ h.partitions
   many_memories = ap length (sym memories_are) ∙ each_length memory o.ps xs o.behind (length xs) o.ms o.memories ∙ sym many_parts
@@ -249,14 +188,31 @@ module _ (xs : List ℕ) (h : Header) (o : Opened xs h) where
   parts_before : (q : ℕ) → q < h.partitions → (e : ℕ) × (f : ℕ) × (Parts q ≡ got (take q o.ps) e) × (partition.read xs e ≡ got (nth_part q) f)
   parts_before q lt = times_item partition xs h.partitions q (parts_from h) o.behind o.ps no_part lt o.parts
 
-  pub before_ok : (q k : ℕ) (r : Result Reach Refusal) → q < h.partitions → k ≡ parts_from h → reached r ≡ map_out pages_of ((times q partition).read xs k) → is_ok r ≡ true
-  before_ok q k r lt ek e =
+  pub passed_ok : (q j : ℕ) (r : Result ℕ Refusal) → q ≤ h.partitions → told j r ≡ map_out pages_of (Parts q) → is_ok r ≡ true
+  passed_ok q j r le e =
+      ⊎_elim
+      (λ (lt : q < h.partitions).
       let b = parts_before q lt in
-      ap is_ok (reached_ok r (Parts q) pages_of b.0 (take q o.ps) (e ∙ ap (λ n. map_out pages_of ((times q partition).read xs n)) ek) b.2)
+      ap is_ok (told_ok r (map_out pages_of (Parts q)) j b.0 (pages_of (take q o.ps)) e (ap (map_out pages_of) b.2)))
+      (λ (ge : h.partitions ≤ q).
+      let all : h.partitions ≡ q = omega arith in
+      let t : map_out pages_of (Parts q) ≡ got (pages_of o.ps) o.behind = ap (λ n. map_out pages_of (Parts n)) (sym all) ∙ ap (map_out pages_of) o.parts in
+      ap is_ok (told_ok r (map_out pages_of (Parts q)) j o.behind (pages_of o.ps) e t))
+      (cases_lt q h.partitions)
 
-  pub all_ok : (k : ℕ) (r : Result Reach Refusal) → k ≡ parts_from h → reached r ≡ map_out pages_of ((times h.partitions partition).read xs k) → r ≡ Ok (record { pages = pages_of o.ps; «end» = o.behind })
-  all_ok k r ek e =
-      reached_ok r (Parts h.partitions) pages_of o.behind o.ps (e ∙ ap (λ n. map_out pages_of ((times h.partitions partition).read xs n)) ek) o.parts
+  pub parts_there : parts_from h ≤ length xs
+  parts_there =
+      ⊎_elim
+      (λ (lt : 0 < h.partitions).
+      let b = parts_before 0 lt in
+      let p = part_read xs b.0 b.1 (nth_part 0) b.3 in
+      omega (arith, part_head_size.there xs b.0 (b.0 + 3) p.0 p.1, got_place b.2))
+      (λ (ge : h.partitions ≤ 0).
+      let none : h.partitions ≡ 0 = omega arith in
+      let e : got o.ps o.behind ≡ got [] (parts_from h) = sym o.parts ∙ ap Parts none in
+      let m : (each memory []).read xs o.behind ≡ got o.ms (length xs) = ap (λ ps. (each memory ps).read xs o.behind) (sym (got_value e)) ∙ o.memories in
+      omega (arith, got_place e, got_place m))
+      (cases_lt 0 h.partitions)
 
   module _ (q before at : ℕ) (lt : q < h.partitions) (eb : got before at ≡ map_out pages_of (Parts q)) where
     here : (f : ℕ) × (Parts q ≡ got (take q o.ps) at) × (partition.read xs at ≡ got (nth_part q) f)
@@ -265,73 +221,63 @@ module _ (xs : List ℕ) (h : Header) (o : Opened xs h) where
         let e : b.0 ≡ at = sym (got_place (eb ∙ ap (map_out pages_of) b.2)) in
         (b.1, b.2 ∙ ap (got (take q o.ps)) e, ap (partition.read xs) (sym e) ∙ b.3)
 
-    pub before_is : before ≡ pages_of (take q o.ps)
+    before_is : before ≡ pages_of (take q o.ps)
     before_is = got_value (eb ∙ ap (map_out pages_of) here.1)
 
-    pub head_ok : (r : Result PartHead Refusal) → told (at + 3) r ≡ part_head.read xs at → is_ok r ≡ true
-    head_ok r e = let p = part_read xs at here.0 (nth_part q) here.2 in ap is_ok (told_ok r _ _ _ p.0 e p.1)
+    own : (g : PartHead) × (part_head.read xs at ≡ got g (at + 3)) × ((times g.tasks task).read xs (at + 3) ≡ got (nth_part q).tasks here.0) × (g.pages ≡ (nth_part q).pages)
+    own = part_read xs at here.0 (nth_part q) here.2
 
-    module _ (g : PartHead) (eg : got g (at + 3) ≡ part_head.read xs at) where
-      same_head : (part_read xs at here.0 (nth_part q) here.2).0 ≡ g
-      same_head = sym (got_value (eg ∙ (part_read xs at here.0 (nth_part q) here.2).1))
+    pub head_ok : (j : ℕ) (r : Result PartHead Refusal) → told j r ≡ part_head.read xs at → is_ok r ≡ true
+    head_ok j r e = ap is_ok (told_ok r _ j _ own.0 e own.1)
 
-      pub pages_are : g.pages ≡ (nth_part q).pages
-      pages_are = ap (λ (x : PartHead). x.pages) (sym same_head) ∙ (part_read xs at here.0 (nth_part q) here.2).3
+    module _ (g : PartHead) (j : ℕ) (eg : got g j ≡ part_head.read xs at) where
+      same : own.0 ≡ g
+      same = sym (got_value (eg ∙ own.1))
 
-      tasks_read : (times g.tasks task).read xs (at + 3) ≡ got (nth_part q).tasks here.0
-      tasks_read = ap (λ (x : PartHead). (times x.tasks task).read xs (at + 3)) (sym same_head) ∙ (part_read xs at here.0 (nth_part q) here.2).2
-
-      many_tasks : length (nth_part q).tasks ≡ g.tasks
-      many_tasks = times_length task xs g.tasks (at + 3) _ (nth_part q).tasks tasks_read
+      pages_are : g.pages ≡ (nth_part q).pages
+      pages_are = ap (λ (x : PartHead). x.pages) (sym same) ∙ own.3
 
       tasks_here : (nth_part q).tasks ≡ get_or (image_in xs).plan.tasks q []
       tasks_here = sym (get_or-map (λ (p : Part). p.tasks) o.ps q no_part [] (omega (arith, many_parts))) ∙ ap (λ l. get_or l q []) tasks_are
 
-      pub tasks_is : Some g.tasks ≡ slice_get (map (λ ts. length ts) (image_in xs).plan.tasks) q
+      tasks_read : (times g.tasks task).read xs j ≡ got (get_or (image_in xs).plan.tasks q []) here.0
+      tasks_read =
+          ap (λ n. (times g.tasks task).read xs n) (got_place (eg ∙ own.1))
+          ∙ ap (λ (x : PartHead). (times x.tasks task).read xs (at + 3)) (sym same)
+          ∙ own.2
+          ∙ ap (λ ts. got ts here.0) tasks_here
+
+      many_tasks : length (get_or (image_in xs).plan.tasks q []) ≡ g.tasks
+      many_tasks = times_length task xs g.tasks j _ (get_or (image_in xs).plan.tasks q []) tasks_read
+
+      tasks_is : Some g.tasks ≡ slice_get (map (λ ts. length ts) (image_in xs).plan.tasks) q
       tasks_is =
           let ts = (image_in xs).plan.tasks in
           let lt' : q < length ts = omega (arith, many_partitions) in
-          ap Some (sym many_tasks ∙ ap length tasks_here ∙ sym (get_or-map (λ l. length l) ts q [] 0 lt'))
+          ap Some (sym many_tasks ∙ sym (get_or-map (λ l. length l) ts q [] 0 lt'))
           ∙ sym (slice_get-get_or (map (λ l. length l) ts) q 0 (omega (arith, length-map ts (λ (l : List Task). length l))))
 
-      pub task_past : (i : ℕ) → g.tasks ≤ i → None ≡ slice_get (get_or (image_in xs).plan.tasks q []) i
-      task_past i le = sym (slice_get_past (get_or (image_in xs).plan.tasks q []) i (omega (arith, many_tasks, ap length tasks_here)))
+      abbrev Lies : ℕ → Type 0
+      Lies e =
+          (between (e + 4096 * before) (e + 4096 * before + 4096 * g.pages) xs ≡ get_or (image_in xs).memories q [])
+          × (e + 4096 * before + 4096 * g.pages ≤ length xs)
 
-      task_read :
-          (i : ℕ) → i < g.tasks → (e : ℕ) × (f : ℕ) × ((times i task).read xs (at + 3) ≡ got (take i (nth_part q).tasks) e) × (task.read xs e ≡ got (get_or (nth_part q).tasks i no_task) f)
-      task_read i l = times_item task xs g.tasks i (at + 3) here.0 (nth_part q).tasks no_task l tasks_read
-
-      pub task_ok : (i : ℕ) (r : Result ℕ Refusal) → i < g.tasks → ended r ≡ seen ((times i task).read xs (at + 3)) → is_ok r ≡ true
-      task_ok i r l e = let t = task_read i l in ap is_ok (ended_ok r ((times i task).read xs (at + 3)) t.0 (take i (nth_part q).tasks) e t.2)
-
-      pub task_is :
-          (i k : ℕ) (r : Result Task Refusal) → i < g.tasks → got tt k ≡ seen ((times i task).read xs (at + 3)) → told (k + 10) r ≡ task.read xs k
-          → result_ok r ≡ slice_get (get_or (image_in xs).plan.tasks q []) i
-      task_is i k r l ek e =
-          let t = task_read i l in
-          let p : k ≡ t.0 = got_place (ek ∙ ap seen t.2) in
-          ap result_ok (told_ok r (task.read xs k) (k + 10) _ _ e (ap (task.read xs) p ∙ t.3))
-          ∙ sym (slice_get-get_or (nth_part q).tasks i no_task (omega (arith, many_tasks)))
-          ∙ ap (λ ts. slice_get ts i) tasks_here
-
-      pub memory_is :
-          (e : ℕ) → e ≡ o.behind
-          → (between (e + 4096 * before) (e + 4096 * before + 4096 * g.pages) xs ≡ get_or (image_in xs).memories q []) × (e + 4096 * before + 4096 * g.pages ≤ length xs)
-      memory_is e ee =
+      memory_is : Lies o.behind
+      memory_is =
           let m = memory_at o.ps q xs o.behind (length xs) o.ms (omega (arith, many_parts)) o.memories in
-          let a : o.behind + 4096 * pages_of (take q o.ps) ≡ e + 4096 * before = omega (arith, before_is) in
-          let b : o.behind + 4096 * pages_of (take q o.ps) + 4096 * (nth_part q).pages ≡ e + 4096 * before + 4096 * g.pages = omega (arith, a, pages_are) in (
-            ap (λ i. between i (e + 4096 * before + 4096 * g.pages) xs) (sym a)
+          let a : o.behind + 4096 * pages_of (take q o.ps) ≡ o.behind + 4096 * before = omega (arith, before_is) in
+          let b : o.behind + 4096 * pages_of (take q o.ps) + 4096 * (nth_part q).pages ≡ o.behind + 4096 * before + 4096 * g.pages = omega (arith, a, pages_are) in (
+            ap (λ i. between i (o.behind + 4096 * before + 4096 * g.pages) xs) (sym a)
                 ∙ ap (λ i. between (o.behind + 4096 * pages_of (take q o.ps)) i xs) (sym b)
                 ∙ sym m.0
                 ∙ ap (λ l. get_or l q []) memories_are,
             omega (arith, b, m.1),
           )
 
-      pub pages_is : Some g.pages ≡ slice_get (map pages_in (image_in xs).memories) q
+      pages_is : Some g.pages ≡ slice_get (map pages_in (image_in xs).memories) q
       pages_is =
           let ms = (image_in xs).memories in
-          let m = memory_is o.behind refl in
+          let m = memory_is in
           let a = o.behind + 4096 * before in
           let n : length (get_or ms q []) ≡ 4096 * g.pages =
           ap length (sym m.0) ∙ omega (arith, m.1, length-take (a + 4096 * g.pages - a) (drop a xs), length-drop a xs) in
@@ -339,11 +285,17 @@ module _ (xs : List ℕ) (h : Header) (o : Opened xs h) where
           ap Some (v ∙ sym (get_or-map pages_in ms q [] 0 (omega (arith, many_memories))))
           ∙ sym (slice_get-get_or (map pages_in ms) q 0 (omega (arith, many_memories, length-map ms pages_in)))
 
-      -- The same, with the place behind the parts as the code found it.
-      pub memory_found :
-          (k : ℕ) (r : Result Reach Refusal) (a : Reach) (n : ℕ) → k ≡ parts_from h → reached r ≡ map_out pages_of ((times h.partitions partition).read xs k) → r ≡ Ok a → n ≡ g.pages
-          → (between (a.«end» + 4096 * before) (a.«end» + 4096 * before + 4096 * n) xs ≡ get_or (image_in xs).memories q []) × (a.«end» + 4096 * before + 4096 * n ≤ length xs)
-      memory_found k r a n ek e er en =
-          let m = memory_is a.«end» (ok_end r a (record { pages = pages_of o.ps; «end» = o.behind }) er (all_ok k r ek e)) in
-          let u : a.«end» + 4096 * before + 4096 * g.pages ≡ a.«end» + 4096 * before + 4096 * n = omega (arith, en) in
-          (ap (λ i. between (a.«end» + 4096 * before) i xs) (sym u) ∙ m.0, omega (arith, u, m.1))
+      -- All of it, in the words of the view.
+      pub part_is : IsPart xs q (record { head = g; tasks_at = j; before = before })
+      part_is =
+          record {
+            pages = pages_is;
+            tasks = tasks_is;
+            read = ap was_read tasks_read;
+            each = ap things tasks_read;
+            memory =
+                λ f n e ef en.
+                let same_header : h ≡ f = got_value (eh ∙ sym ef) in
+                let at_end : o.behind ≡ e = sym (got_place (en ∙ ap (λ (x : Header). map_out pages_of ((times x.partitions partition).read xs (parts_from x))) (sym same_header) ∙ ap (map_out pages_of) o.parts)) in
+                subst Lies at_end memory_is;
+          }

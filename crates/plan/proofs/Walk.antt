@@ -117,33 +117,41 @@ module _ (xs : List ℕ) where
   pub stop_header : (m p : ℕ) → refused m p ≡ header.read xs 0 → refused m p ≡ seen (read_plan xs)
   stop_header m p e = ap (λ o. follow o (after_header xs)) e ∙ walk_is xs
 
-  module _ (h : Header) (eh : got h 10 ≡ header.read xs 0) where
-    past_header : after_header xs h 10 ≡ seen (read_plan xs)
+  module _ (h : Header) (k : ℕ) (eh : got h k ≡ header.read xs 0) (ys : List ℕ) (ey : ys ≡ xs) where
+    abbrev Windows : List ℕ → Outcome (Unit {0})
+    Windows l = seen ((times h.windows (window h.system h.partitions)).read l k)
+
+    past_header : after_header xs h k ≡ seen (read_plan xs)
     past_header = ap (λ o. follow o (after_header xs)) eh ∙ walk_is xs
 
-    pub stop_windows : (m p : ℕ) → refused m p ≡ seen ((times h.windows (window h.system h.partitions)).read xs 10) → refused m p ≡ seen (read_plan xs)
-    stop_windows m p e = ap (λ o. follow o (λ u i. after_windows xs h i)) e ∙ past_header
+    pub stop_windows : (m p : ℕ) → refused m p ≡ Windows ys → refused m p ≡ seen (read_plan xs)
+    stop_windows m p e = ap (λ o. follow o (λ u i. after_windows xs h i)) (e ∙ ap Windows ey) ∙ past_header
 
-    module _ (j : ℕ) (ew : got tt j ≡ seen ((times h.windows (window h.system h.partitions)).read xs 10)) where
+    module _ (j : ℕ) (ew : got tt j ≡ Windows ys) (zs : List ℕ) (ez : zs ≡ xs) where
+      abbrev Channels : List ℕ → Outcome (Unit {0})
+      Channels l = seen ((times h.channels (channel h.partitions)).read l j)
+
       past_windows : after_windows xs h j ≡ seen (read_plan xs)
-      past_windows = ap (λ o. follow o (λ u i. after_windows xs h i)) ew ∙ past_header
+      past_windows = ap (λ o. follow o (λ u i. after_windows xs h i)) (ew ∙ ap Windows ey) ∙ past_header
 
-      pub stop_channels : (m p : ℕ) → refused m p ≡ seen ((times h.channels (channel h.partitions)).read xs j) → refused m p ≡ seen (read_plan xs)
-      stop_channels m p e = ap (λ o. follow o (λ u i. after_channels xs h i)) e ∙ past_windows
+      pub stop_channels : (m p : ℕ) → refused m p ≡ Channels zs → refused m p ≡ seen (read_plan xs)
+      stop_channels m p e = ap (λ o. follow o (λ u i. after_channels xs h i)) (e ∙ ap Channels ez) ∙ past_windows
 
-      module _ (i : ℕ) (ec : got tt i ≡ seen ((times h.channels (channel h.partitions)).read xs j)) where
+      module _ (i : ℕ) (ec : got tt i ≡ Channels zs) (us : List ℕ) (eu : us ≡ xs) where
+        abbrev Parts : List ℕ → Outcome ℕ
+        Parts l = map_out pages_of ((times h.partitions partition).read l i)
+
         past_channels : after_channels xs h i ≡ seen (read_plan xs)
-        past_channels = ap (λ o. follow o (λ u l. after_channels xs h l)) ec ∙ past_windows
+        past_channels = ap (λ o. follow o (λ u l. after_channels xs h l)) (ec ∙ ap Channels ez) ∙ past_windows
 
-        pub stop_parts : (m p : ℕ) → refused m p ≡ map_out pages_of ((times h.partitions partition).read xs i) → refused m p ≡ seen (read_plan xs)
+        pub stop_parts : (m p : ℕ) → refused m p ≡ Parts us → refused m p ≡ seen (read_plan xs)
         stop_parts m p e =
-            ap (λ o. follow o (after_parts xs)) (sym (map-refused pages_of ((times h.partitions partition).read xs i) m p (sym e))) ∙ past_channels
+            let r = map-refused pages_of ((times h.partitions partition).read xs i) m p (sym (e ∙ ap Parts eu)) in
+            ap (λ o. follow o (after_parts xs)) (sym r) ∙ past_channels
 
-        pub past_parts :
-            (pages e : ℕ) → e ≤ length xs → got pages e ≡ map_out pages_of ((times h.partitions partition).read xs i)
-            → fits xs e (4096 * pages) ≡ seen (read_plan xs)
+        pub past_parts : (pages e : ℕ) → e ≤ length xs → got pages e ≡ Parts us → fits xs e (4096 * pages) ≡ seen (read_plan xs)
         past_parts pages e le r =
-            let q = map-got pages_of ((times h.partitions partition).read xs i) pages e (sym r) in
+            let q = map-got pages_of ((times h.partitions partition).read xs i) pages e (sym (r ∙ ap Parts eu)) in
             sym (memories_fit q.0 xs e le ∙ ap (λ n. fits xs e (4096 * n)) q.2)
             ∙ ap (λ o. follow o (after_parts xs)) (sym q.1)
             ∙ past_channels

@@ -3,7 +3,6 @@
 use Rattle.std.specs.Prelude.{ℕ, ◌+◌, cond, List, [], ◌∷◌, length, Ok, Err, Result, ◌==◌, nat_le}
 use Rattle.codec.specs.Codec.{Outcome, got, refused, map_out}
 use Rattle.plan.specs.declared.refusal.Refusal.{Refusal}
-use Rattle.plan.specs.declared.reach.Reach.{Reach}
 use Rattle.plan.specs.Refusals.{number_of, place_of}
 use Rattle.plan.specs.Layout.{Part}
 
@@ -19,10 +18,6 @@ ended (Err e) = refused (number_of e) (place_of e)
 abbrev pub pages_of : List Part → ℕ
 pages_of [] = 0
 pages_of (p ∷ ps) = p.pages + pages_of ps
-
-abbrev pub reached : Result Reach Refusal → Outcome ℕ
-reached (Ok r) = got r.pages r.«end»
-reached (Err e) = refused (number_of e) (place_of e)
 
 -- So many bytes behind place k, and no more.
 abbrev pub fits : List ℕ → (k n : ℕ) → Outcome (Unit {0})

@@ -1,11 +1,14 @@
 pub mod Refusals
 pub mod Layout
+pub mod Records
 pub mod Bounds
 pub mod Flat
 pub mod Promise
 pub mod Ends
 pub mod Taken
+pub mod Places
 pub mod Views
 pub mod Rows
+pub mod Sizes
 pub mod RowViews
 pub mod Drafts

@@ -1,9 +1,9 @@
 -- A tick's row of bytes from outside: how many, and each with the partition that it is for. Assumes nothing: these are
 -- definitions.
-use Rattle.std.specs.Prelude.{ℕ, ◌-◌, ◌^◌, Bool, cond, List, [], length, nat_lt}
-use Rattle.codec.specs.Codec.{Outcome, got, refused, Codec, number, chain, ◌▸◌, times, named}
+use Rattle.std.specs.Prelude.{ℕ, ◌-◌, ◌^◌, Bool, cond, List, length, nat_lt}
+use Rattle.codec.specs.Codec.{Outcome, refused, Codec, number, chain, ◌▸◌, times, named}
 use Rattle.model.specs.declared.plan.Arrival.{Arrival}
-use Rattle.plan.specs.Taken.{was_read}
+use Rattle.plan.specs.Taken.{was_read, things}
 
 -- A byte of a row, up to hi. Refusal 5, at the end where it is missing and at itself where it is out of range.
 abbrev pub row_byte : (hi : ℕ) → Codec ℕ
@@ -24,10 +24,6 @@ read_row n time xs k = cond (nat_lt time (2 ^ 40)) ((row n).read xs k) (refused 
 unfoldable pub takes_row : (n : ℕ) → List ℕ → ℕ → Bool
 takes_row n xs k = was_read ((row n).read xs k)
 
-abbrev pub arrivals_or : Outcome (List Arrival) → List Arrival
-arrivals_or (got l j) = l
-arrivals_or (refused m p) = []
-
 -- The row that begins at k; none where no row does.
 unfoldable pub row_in : (n : ℕ) → List ℕ → ℕ → List Arrival
-row_in n xs k = arrivals_or ((row n).read xs k)
+row_in n xs k = things ((row n).read xs k)

@@ -7,6 +7,11 @@ abbrev pub was_read : {A : Type 0} → Outcome A → Bool
 was_read (got a j) = true
 was_read (refused n p) = false
 
+-- The things of a row that was read; none where it was refused.
+abbrev pub things : {A : Type 0} → Outcome (List A) → List A
+things (got l j) = l
+things (refused n p) = []
+
 unfoldable pub accepts : List ℕ → Bool
 accepts xs = was_read (read_plan xs)
 

@@ -4,102 +4,52 @@ ghost use Rattle.codec.specs.Codec.{times, map_out};
 ghost use Rattle.plan.specs.Refusals.{told};
 ghost use Rattle.plan.specs.Taken.{accepts, image_in};
 ghost use Rattle.plan.specs.Promise.{Exactly, Says};
-ghost use Rattle.plan.specs.Ends.{seen, ended, reached, pages_of, fits};
-ghost use Rattle.plan.specs.Layout.{window, channel, task, partition, read_plan};
+ghost use Rattle.plan.specs.Ends.{seen, pages_of, fits};
+ghost use Rattle.plan.specs.Layout.{partition, read_plan};
 
-use crate::head::Header;
-use crate::reach::Reach;
-use crate::record::{channel_at, header_at_front, part_head_at, task_at, window_at};
+use crate::head::PartHead;
+use crate::reader::Reader;
+use crate::record::{FromBytes, header_at_front};
 use crate::refusal::Refusal;
+use model::plan::{Channel, Task, Window};
 
 /// The bytes of a page.
 pub(crate) const PAGE: usize = 4096;
 
-/// The place behind the windows that begin at `from`.
-fn windows_end(b: &[u8], from: usize, h: Header) -> Result<usize, Refusal>
-    requires { from ≤ length b.now }
-    ensures value { ended result ≡ seen ((times h.windows (window h.system h.partitions)).read b.now from) }
-    ensures room { IfOk result (λ j. j ≤ length b.now) }
+/// Passes a partition's part; the pages of its memory.
+fn pass_part(r: &mut Reader<'_>) -> Result<u16, Refusal>
+    ensures value { told r.new.at result ≡ map_out (λ p. p.pages) (partition.read r.old.bytes.now r.old.at) }
+    ensures bytes { r.new.bytes.now ≡ r.old.bytes.now }
 {
-    let mut k = from;
-    for _i in 0..h.windows {
-        let _window = window_at(b, k, h)?;
-        k += 5;
-    }
-    Ok(k)
+    let head = PartHead::read(r, ())?;
+    r.pass::<Task>(u16::from(head.tasks), ())?;
+    Ok(head.pages)
 }
 
-/// The place behind the channels that begin at `from`.
-fn channels_end(b: &[u8], from: usize, h: Header) -> Result<usize, Refusal>
-    requires { from ≤ length b.now }
-    ensures value { ended result ≡ seen ((times h.channels (channel h.partitions)).read b.now from) }
-    ensures room { IfOk result (λ j. j ≤ length b.now) }
+/// Passes so many partitions' parts; the pages of all their memories.
+pub(crate) fn pass_parts(r: &mut Reader<'_>, n: u8) -> Result<u32, Refusal>
+    ensures value { told r.new.at result ≡ map_out pages_of ((times n partition).read r.old.bytes.now r.old.at) }
+    ensures bytes { r.new.bytes.now ≡ r.old.bytes.now }
+    ensures bound { IfOk result (λ pages. pages ≤ 65535 * 255) }
 {
-    let mut k = from;
-    for _i in 0..h.channels {
-        let _channel = channel_at(b, k, h)?;
-        k += 5;
-    }
-    Ok(k)
-}
-
-/// The place behind the tasks, of which there are `n`, that begin at `from`.
-pub(crate) fn tasks_end(b: &[u8], from: usize, n: u8) -> Result<usize, Refusal>
-    requires { from ≤ length b.now }
-    ensures value { ended result ≡ seen ((times n task).read b.now from) }
-    ensures room { IfOk result (λ j. j ≤ length b.now) }
-{
-    let mut k = from;
-    for _i in 0..n {
-        let _task = task_at(b, k)?;
-        k += 10;
-    }
-    Ok(k)
-}
-
-/// A partition's pages, and the place behind its part, which begins at `k`.
-pub(crate) fn part_end(b: &[u8], k: usize) -> Result<Reach, Refusal>
-    ensures value { reached result ≡ map_out (λ p. p.pages) (partition.read b.now k) }
-    ensures room { IfOk result (λ e. e.end ≤ length b.now) }
-    ensures bound { IfOk result (λ e. e.pages ≤ 65535) }
-{
-    let head = part_head_at(b, k)?;
-    let end = tasks_end(b, k + 3, head.tasks)?;
-    Ok(Reach {
-        pages: u32::from(head.pages),
-        end,
-    })
-}
-
-/// The pages of `n` partitions, and the place behind their parts, which begin at `from`.
-pub(crate) fn parts_end(b: &[u8], from: usize, n: u8) -> Result<Reach, Refusal>
-    ensures value { reached result ≡ map_out pages_of ((times n partition).read b.now from) }
-    ensures room { from ≤ length b.now → IfOk result (λ e. e.end ≤ length b.now) }
-    ensures bound { IfOk result (λ e. e.pages ≤ 65535 * 255) }
-{
-    let mut k = from;
     let mut pages = 0u32;
     for _i in 0..n {
-        let part = part_end(b, k)?;
-        k = part.end;
-        pages += part.pages;
+        pages += u32::from(pass_part(r)?);
     }
-    Ok(Reach { pages, end: k })
+    Ok(pages)
 }
 
-/// Whether the memories are what is left behind the parts.
-fn memories_fit(b: &[u8], r: Reach) -> Result<(), Refusal>
-    requires room { r.end ≤ length b.now }
-    requires bound { r.pages ≤ 65535 * 255 }
-    ensures value { told (length b.now) result ≡ fits b.now r.end (4096 * r.pages) }
+/// Whether the memories, so many bytes, are what is left.
+fn memories_fit(r: &Reader<'_>, memories: usize) -> Result<(), Refusal>
+    requires { memories ≤ 4096 * (65535 * 255) }
+    ensures value { told (length r.now.bytes.now) result ≡ fits r.now.bytes.now r.now.at memories }
 {
-    let left = b.len() - r.end;
-    let memories = PAGE * r.pages as usize;
+    let left = r.bytes.len() - r.at;
     if left < memories {
-        return Err(Refusal::Short(b.len()));
+        return Err(Refusal::Short(r.bytes.len()));
     }
     if memories < left {
-        return Err(Refusal::Long(r.end + memories));
+        return Err(Refusal::Long(r.at + memories));
     }
     Ok(())
 }
@@ -108,11 +58,12 @@ fn memories_fit(b: &[u8], r: Reach) -> Result<(), Refusal>
 fn walk(b: &[u8]) -> Result<(), Refusal>
     ensures value { told (length b.now) result ≡ seen (read_plan b.now) }
 {
-    let h = header_at_front(b)?;
-    let windows = windows_end(b, 10, h)?;
-    let channels = channels_end(b, windows, h)?;
-    let parts = parts_end(b, channels, h.partitions)?;
-    memories_fit(b, parts)
+    let mut r = Reader { bytes: b, at: 0 };
+    let h = header_at_front(&mut r)?;
+    r.pass::<Window>(h.windows, h)?;
+    r.pass::<Channel>(u16::from(h.channels), h)?;
+    let pages = pass_parts(&mut r, h.partitions)?;
+    memories_fit(&r, PAGE * pages as usize)
 }
 
 /// Whether the bytes are a plan, and else why not. Those that are taken are exactly the bytes of plans in bounds.

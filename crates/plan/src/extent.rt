@@ -8,10 +8,10 @@ pub struct Extent {
     pub to: usize,
 }
 
-/// A partition's part: what it begins with, where, and the pages of the partitions before it.
+/// A partition's part: what it begins with, where its tasks lie, and the pages of the partitions before it.
 #[derive(Clone, Copy)]
 pub(crate) struct Part {
     pub head: PartHead,
-    pub at: usize,
+    pub tasks_at: usize,
     pub before: u32,
 }

@@ -18,7 +18,7 @@ pub mod check;
 pub mod draft;
 pub mod extent;
 pub mod head;
-mod reach;
+mod reader;
 mod record;
 pub mod refusal;
 pub mod row;

@@ -5,7 +5,9 @@ ghost use Rattle.plan.specs.Rows.{takes_row, row_in};
 ghost use Rattle.plan.specs.RowViews.{arrivals_of};
 
 use super::Row;
-use crate::rows::{arrival_at, arrivals_end, row_byte};
+use crate::reader::Reader;
+use crate::record::nth;
+use crate::rows::row_byte;
 use model::plan::Arrival;
 
 impl<'a> Row<'a> {
@@ -25,18 +27,24 @@ impl<'a> Row<'a> {
     pub fn len(&self) -> u8
         ensures value { result ≡ length (arrivals_of self.now) }
     {
-        row_byte(self.bytes, self.at, 255).unwrap()
+        let mut r = Reader {
+            bytes: self.bytes,
+            at: self.at,
+        };
+        row_byte(&mut r, 255).unwrap()
     }
 
     /// A byte that came, in the order in which they came.
     pub fn arrival(&self, i: u8) -> Option<Arrival>
         ensures value { result ≡ slice_get (arrivals_of self.now) i }
     {
-        let n = row_byte(self.bytes, self.at, 255).unwrap();
-        if i >= n {
-            return None;
-        }
-        let k = arrivals_end(self.bytes, self.at + 1, i, self.partitions).unwrap();
-        arrival_at(self.bytes, k, self.partitions).ok()
+        let n = self.len();
+        nth(
+            self.bytes,
+            self.at + 1,
+            u16::from(n),
+            u16::from(i),
+            self.partitions,
+        )
     }
 }

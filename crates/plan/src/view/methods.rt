@@ -1,18 +1,34 @@
 //! What a checked plan says.
-ghost use Rattle.std.specs.Prelude.{◌≡◌, ◌+◌, ◌*◌, ◌<◌, ◌≤◌, true, [], map, length};
+ghost use Rattle.std.specs.Prelude.{◌≡◌, ◌*◌, ◌≤◌, true, [], map, length, MatchOption};
 ghost use Rattle.std.specs.List.{slice_get, between};
 ghost use Rattle.codec.specs.Codec.{got, map_out, times};
-ghost use Rattle.plan.specs.Layout.{header, partition, part_head};
 ghost use Rattle.plan.specs.Ends.{pages_of};
+ghost use Rattle.plan.specs.Layout.{header, partition};
+ghost use Rattle.plan.specs.Places.{channels_from, parts_from, IsPart};
 ghost use Rattle.plan.specs.Taken.{accepts, pages_in};
 ghost use Rattle.plan.specs.Views.{bytes_of, plan_of, memories_of, tasks_of, memory_of};
 
 use super::View;
-use crate::check::{PAGE, parts_end, tasks_end};
+use crate::check::{PAGE, pass_parts};
 use crate::extent::{Extent, Part};
-use crate::head::Header;
-use crate::record::{channel_at, header_at_front, part_head_at, task_at, window_at};
+use crate::head::{Header, PartHead};
+use crate::reader::Reader;
+use crate::record::{FromBytes, HEADER, header_at_front, nth};
 use model::plan::{Channel, Task, Window};
+
+/// Where the channels begin.
+fn channels_from(h: Header) -> usize
+    ensures value { result ≡ channels_from h }
+{
+    HEADER + Window::SIZE * usize::from(h.windows)
+}
+
+/// Where the partitions' parts begin.
+fn parts_from(h: Header) -> usize
+    ensures value { result ≡ parts_from h }
+{
+    channels_from(h) + Channel::SIZE * usize::from(h.channels)
+}
 
 impl<'a> View<'a> {
     /// The plan in bytes that `check` took.
@@ -27,7 +43,11 @@ impl<'a> View<'a> {
     fn header(&self) -> Header
         ensures value { got result 10 ≡ header.read (bytes_of self.now) 0 }
     {
-        header_at_front(self.bytes).unwrap()
+        let mut r = Reader {
+            bytes: self.bytes,
+            at: 0,
+        };
+        header_at_front(&mut r).unwrap()
     }
 
     /// The ticks at the beginning of each window that are the system's.
@@ -63,10 +83,7 @@ impl<'a> View<'a> {
         ensures value { result ≡ slice_get (plan_of self.now).windows i }
     {
         let h = self.header();
-        if i >= h.windows {
-            return None;
-        }
-        window_at(self.bytes, 10 + 5 * usize::from(i), h).ok()
+        nth(self.bytes, HEADER, h.windows, i, h)
     }
 
     /// A channel, by its number.
@@ -74,72 +91,74 @@ impl<'a> View<'a> {
         ensures value { result ≡ slice_get (plan_of self.now).channels i }
     {
         let h = self.header();
-        if i >= h.channels {
-            return None;
-        }
-        channel_at(
+        nth(
             self.bytes,
-            10 + 5 * usize::from(h.windows) + 5 * usize::from(i),
+            channels_from(h),
+            u16::from(h.channels),
+            u16::from(i),
             h,
         )
-        .ok()
+    }
+
+    /// The parts of the first partitions passed: the pages of those, and where the next lies.
+    fn passed(&self, h: Header, n: u8) -> (u32, Reader<'a>)
+        requires header { got h 10 ≡ header.read (bytes_of self.now) 0 }
+        requires there { n ≤ h.partitions }
+        ensures bytes { result.1.bytes.now ≡ bytes_of self.now }
+        ensures value { got result.0 result.1.at ≡ map_out pages_of ((times n partition).read (bytes_of self.now) (parts_from h)) }
+        ensures bound { result.0 ≤ 65535 * 255 }
+    {
+        let mut r = Reader {
+            bytes: self.bytes,
+            at: parts_from(h),
+        };
+        let pages = pass_parts(&mut r, n).unwrap();
+        (pages, r)
     }
 
     /// Where a partition's part lies.
-    fn part(&self, h: Header, q: u8) -> Part
-        requires header { got h 10 ≡ header.read (bytes_of self.now) 0 }
-        requires there { q < h.partitions }
-        ensures before { got result.before result.at ≡ map_out pages_of ((times q partition).read (bytes_of self.now) (10 + 5 * h.windows + 5 * h.channels)) }
-        ensures head { got result.head (result.at + 3) ≡ part_head.read (bytes_of self.now) result.at }
-        ensures room { result.at + 3 ≤ length (bytes_of self.now) }
-        ensures bound { result.before ≤ 65535 * 255 }
+    fn part(&self, q: u8) -> Option<Part>
+        ensures value { MatchOption result ((length (plan_of self.now).tasks ≤ q) × (length (memories_of self.now) ≤ q)) (IsPart (bytes_of self.now) q) }
     {
-        let from = 10 + 5 * usize::from(h.windows) + 5 * usize::from(h.channels);
-        let reach = parts_end(self.bytes, from, q).unwrap();
-        let head = part_head_at(self.bytes, reach.end).unwrap();
-        Part {
-            head,
-            at: reach.end,
-            before: reach.pages,
+        let h = self.header();
+        if q >= h.partitions {
+            return None;
         }
+        let (before, mut r) = self.passed(h, q);
+        let head = PartHead::read(&mut r, ()).unwrap();
+        Some(Part {
+            head,
+            tasks_at: r.at,
+            before,
+        })
     }
 
     /// The pages of a partition's memory.
     pub fn pages(&self, q: u8) -> Option<u16>
         ensures value { result ≡ slice_get (map pages_in (memories_of self.now)) q }
     {
-        let h = self.header();
-        if q >= h.partitions {
-            return None;
-        }
-        Some(self.part(h, q).head.pages)
+        Some(self.part(q)?.head.pages)
     }
 
     /// How many tasks a partition has.
     pub fn tasks(&self, q: u8) -> Option<u8>
         ensures value { result ≡ slice_get (map (λ ts. length ts) (plan_of self.now).tasks) q }
     {
-        let h = self.header();
-        if q >= h.partitions {
-            return None;
-        }
-        Some(self.part(h, q).head.tasks)
+        Some(self.part(q)?.head.tasks)
     }
 
     /// A partition's task, by its number there.
     pub fn task(&self, q: u8, i: u8) -> Option<Task>
         ensures value { result ≡ slice_get (tasks_of self.now q) i }
     {
-        let h = self.header();
-        if q >= h.partitions {
-            return None;
-        }
-        let part = self.part(h, q);
-        if i >= part.head.tasks {
-            return None;
-        }
-        let k = tasks_end(self.bytes, part.at + 3, i).unwrap();
-        task_at(self.bytes, k).ok()
+        let part = self.part(q)?;
+        nth(
+            self.bytes,
+            part.tasks_at,
+            u16::from(part.head.tasks),
+            u16::from(i),
+            (),
+        )
     }
 
     /// Where a partition's memory lies in the bytes; nothing, at their front, where there is no such partition.
@@ -147,17 +166,15 @@ impl<'a> View<'a> {
         ensures value { between result.from result.to (bytes_of self.now) ≡ memory_of self.now q }
         ensures bound { (result.from ≤ result.to) × (result.to ≤ length (bytes_of self.now)) }
     {
-        let h = self.header();
-        if q >= h.partitions {
+        let Some(part) = self.part(q) else {
             return Extent { from: 0, to: 0 };
-        }
-        let part = self.part(h, q);
-        let from = 10 + 5 * usize::from(h.windows) + 5 * usize::from(h.channels);
-        let memories = parts_end(self.bytes, from, h.partitions).unwrap();
-        let begin = memories.end + PAGE * part.before as usize;
+        };
+        let h = self.header();
+        let (_, r) = self.passed(h, h.partitions);
+        let from = r.at + PAGE * part.before as usize;
         Extent {
-            from: begin,
-            to: begin + PAGE * usize::from(part.head.pages),
+            from,
+            to: from + PAGE * usize::from(part.head.pages),
         }
     }
 

@@ -1,19 +1,15 @@
-use Rattle.std.proofs.Common.{sym, ◌∙◌, arith}
-use Rattle.std.proofs.lemmas.Option.{slice_get_past}
-use Rattle.plan.specs.Taken.{image_in}
-use Rattle.plan.proofs.Opened.{opened, many_channels, channel_is}
+use Rattle.std.proofs.Common.{ap, ◌∙◌}
+use Rattle.std.specs.List.{slice_get}
+use Rattle.plan.proofs.Opened.{channels_there, channels_read}
 use Rattle.plan.proofs.view.View.channel.Goals as goal
 
-pub returns-then-i-h : goal.returns-then-i-h
-returns-then-i-h c =
-    let xs = c.args.self.now.bytes.now in
-    let h = c.header-h.result in
-    let o = opened xs c.args.self.now.sound h c.header-h.ensures.value in
-    record { value = sym (slice_get_past (image_in xs).plan.channels c.args.i (omega (arith, many_channels xs h o))) }
+pub nth-requires : goal.nth-requires
+nth-requires c =
+    let v = c.args.self.now in
+    rw (c.channels_from.ensures.value, c.from.ensures) (channels_there v.bytes.now v.sound c.header-h.result c.header-h.ensures.value)
 
 pub returns : goal.returns
 returns c =
-    let xs = c.args.self.now.bytes.now in
-    let h = c.header-h.result in
-    let o = opened xs c.args.self.now.sound h c.header-h.ensures.value in
-    record { value = c.ok.ensures.value ∙ channel_is xs h o c.args.i _ c.channel_at.result c.if-i-h.false (omega (arith, c.from.ensures, c.from-2.ensures)) c.channel_at.ensures.value }
+    let v = c.args.self.now in
+    let e = rw (c.channels_from.ensures.value, c.from.ensures, c.from-2.ensures) at c.nth.ensures.value in
+    record { value = e ∙ ap (λ l. slice_get l c.args.i) (channels_read v.bytes.now v.sound c.header-h.result c.header-h.ensures.value) }

@@ -1,8 +1,7 @@
-use Rattle.plan.proofs.Opened.{opened, many_partitions}
+use Rattle.plan.proofs.Opened.{many_partitions}
 use Rattle.plan.proofs.view.View.partitions.Goals as goal
 
 pub returns : goal.returns
 returns c =
-    let xs = c.args.self.now.bytes.now in
-    let h = c.header.result in
-    record { value = many_partitions xs h (opened xs c.args.self.now.sound h c.header.ensures.value) }
+    let v = c.args.self.now in
+    record { value = many_partitions v.bytes.now v.sound c.header.result c.header.ensures.value }
