@@ -7,4 +7,3 @@ pub mod Exact
 pub mod Arrivals
 pub mod Writing
 pub mod Drafted
-pub mod Flattened

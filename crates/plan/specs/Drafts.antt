@@ -1,16 +1,17 @@
--- What is written for a plan that is handed over in flat rows. Assumes nothing: these are definitions.
-use Rattle.std.specs.Prelude.{◌≡◌, ℕ, ◌*◌, ◌<◌, ◌≤◌, List, [], ◌∷◌, ◌++◌, length, take, drop, Ok, Err, Result}
-use Rattle.std.specs.List.{flat_map}
+-- What is written for a plan that is handed over. Assumes nothing: these are definitions.
+use Rattle.std.specs.Prelude.{◌≡◌, ℕ, ◌/◌, ◌<◌, ◌≤◌, List, ◌++◌, map, length, Ok, Err, Result}
+use Rattle.std.specs.List.{All, flat_map}
 use Rattle.octets.specs.Bytes.{put}
 use Rattle.model.specs.declared.plan.Window.{Window}
 use Rattle.model.specs.declared.plan.Channel.{Channel}
 use Rattle.model.specs.declared.plan.Task.{Task}
 use Rattle.plan.specs.declared.head.PartHead.{PartHead}
 use Rattle.plan.specs.declared.draft.Draft.{Draft}
+use Rattle.plan.specs.declared.draft.DraftPart.{DraftPart}
 use Rattle.plan.specs.declared.draft.Unwritten.{Unwritten}
 use Rattle.plan.specs.declared.draft.Unwritten.TheVariants.{Counts, Short}
-use Rattle.plan.specs.Layout.{Image, window, channel, task, part_head, write_plan}
-use Rattle.plan.specs.Flat.{tasks_said, pages_said, image_from}
+use Rattle.plan.specs.Layout.{Image, header, window, channel, task, part_head, write_plan}
+use Rattle.plan.specs.Given.{Given, Fits, image_from}
 
 -- The bytes of each record: its range does not matter to them.
 abbrev pub window_bytes : Window → List ℕ
@@ -25,23 +26,34 @@ task_bytes = task.write
 abbrev pub head_bytes : PartHead → List ℕ
 head_bytes = part_head.write
 
--- The parts of the partitions, each with its tasks out of the row of all tasks.
-abbrev pub parts_bytes : List PartHead → List Task → List ℕ
-parts_bytes [] ts = []
-parts_bytes (p ∷ ps) ts = head_bytes p ++ (flat_map task_bytes (take p.tasks ts) ++ parts_bytes ps (drop p.tasks ts))
+abbrev pub given : DraftPart → Given
+given p = record { tasks = p.tasks.now; memory = p.memory.now }
+
+-- A partition's part, and its memory.
+abbrev pub part_bytes : DraftPart → List ℕ
+part_bytes p =
+    head_bytes (record { pages = length p.memory.now / 4096; tasks = length p.tasks.now }) ++ flat_map task_bytes p.tasks.now
+
+abbrev pub memory_bytes : DraftPart → List ℕ
+memory_bytes p = p.memory.now
 
 -- The plan with its memories that a draft is.
 abbrev pub draft_image : Draft → Image
-draft_image d = image_from d.system d.windows.now d.channels.now d.parts.now d.tasks.now d.memories.now
+draft_image d = image_from d.system d.windows.now d.channels.now (map given d.parts.now)
 
--- No more of each than a plan may have, and the tasks and the memory that the parts say.
+-- Its bytes, piece by piece.
+abbrev pub draft_bytes : Draft → List ℕ
+draft_bytes d =
+    header.write (record { system = d.system; partitions = length d.parts.now; windows = length d.windows.now; channels = length d.channels.now })
+    ++ (flat_map window_bytes d.windows.now
+    ++ (flat_map channel_bytes d.channels.now ++ (flat_map part_bytes d.parts.now ++ flat_map memory_bytes d.parts.now)))
+
+-- No more of each than a plan may have, and what fits into each part.
 pub record Counted (d : Draft) : Type 0 where
   pub windows : length d.windows.now ≤ 256
   pub channels : length d.channels.now ≤ 128
   pub parts : length d.parts.now ≤ 32
-  pub few : length d.tasks.now ≤ 512
-  pub tasks : tasks_said d.parts.now ≡ length d.tasks.now
-  pub memories : 4096 * pages_said d.parts.now ≡ length d.memories.now
+  pub each : All (λ p. Fits (given p)) d.parts.now
 
 -- What writing a draft into a slice did: all of the plan's bytes at the front, and the rest as it was; or nothing.
 abbrev pub Wrote : Draft → (entry exit : List ℕ) → Result ℕ Unwritten → Type 0

@@ -2,7 +2,8 @@ pub mod Refusals
 pub mod Layout
 pub mod Records
 pub mod Bounds
-pub mod Flat
+pub mod Given
+pub mod Writes
 pub mod Promise
 pub mod Ends
 pub mod Taken

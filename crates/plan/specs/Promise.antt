@@ -1,19 +1,18 @@
 -- What is promised of plans as bytes. Each is a statement, whose proof is owed.
-use Rattle.std.specs.Prelude.{◌≡◌, ℕ, ◌*◌, ◌≤◌, Bool, List, length, Decides}
+use Rattle.std.specs.Prelude.{◌≡◌, ℕ, ◌≤◌, Bool, List, length, Decides}
+use Rattle.std.specs.List.{All}
 use Rattle.codec.specs.Codec.{got, Bytes}
-use Rattle.model.specs.declared.plan.Task.{Task}
-use Rattle.plan.specs.declared.head.PartHead.{PartHead}
 use Rattle.plan.specs.Layout.{Image, read_plan, write_plan}
 use Rattle.plan.specs.Bounds.{InBounds}
-use Rattle.plan.specs.Flat.{tasks_said, pages_said, image_from}
+use Rattle.plan.specs.Given.{Given, Fits, image_from}
 
--- The flat rows are the plan's, and add up.
-pub record Drafts (i : Image) (ps : List PartHead) (ts : List Task) (m : List ℕ) : Type 0 where
-  pub same : image_from i.plan.system i.plan.windows i.plan.channels ps ts m ≡ i
+-- What is handed over is the plan, and can be written.
+pub record Drafts (i : Image) (ps : List Given) : Type 0 where
+  pub same : image_from i.plan.system i.plan.windows i.plan.channels ps ≡ i
+  pub windows : length i.plan.windows ≤ 256
+  pub channels : length i.plan.channels ≤ 128
   pub parts : length ps ≤ 32
-  pub few : length ts ≤ 512
-  pub tasks : tasks_said ps ≡ length ts
-  pub memories : 4096 * pages_said ps ≡ length m
+  pub each : All Fits ps
 
 -- Every plan in bounds is read from its bytes.
 abbrev pub ReadsAll : Type 0
@@ -33,6 +32,6 @@ pub record Says (xs : List ℕ) (i : Image) : Type 0 where
   pub bytes : write_plan i ≡ xs
   pub only : (o : Image) → InBounds o → write_plan o ≡ xs → o ≡ i
 
--- Every plan in bounds can be handed over to be written, in flat rows that add up.
+-- Every plan in bounds can be handed over to be written.
 abbrev pub DraftsAll : Type 0
-DraftsAll = (i : Image) → InBounds i → (ps : List PartHead) × (ts : List Task) × (m : List ℕ) × Drafts i ps ts m
+DraftsAll = (i : Image) → InBounds i → (ps : List Given) × Drafts i ps

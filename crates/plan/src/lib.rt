@@ -23,7 +23,6 @@ mod record;
 pub mod refusal;
 pub mod row;
 pub mod rows;
-mod sums;
 pub mod view;
 mod write;
 

@@ -1,122 +1,116 @@
-//! The records of a plan as bytes.
-ghost use Rattle.std.specs.Prelude.{◌≡◌, ◌+◌, ◌*◌, ◌≤◌, ◌++◌, length};
-ghost use Rattle.std.specs.List.{flat_map, between};
-ghost use Rattle.octets.specs.Bytes.{put};
+//! The records of a plan as bytes, one behind the other.
+ghost use Rattle.std.specs.Prelude.{◌≡◌, ℕ, ◌+◌, ◌≤◌, List, length};
+ghost use Rattle.std.specs.List.{flat_map, All};
+ghost use Rattle.octets.specs.Bytes.{bytes_of};
 ghost use Rattle.plan.specs.Layout.{header};
-ghost use Rattle.plan.specs.Drafts.{window_bytes, channel_bytes, task_bytes, head_bytes, parts_bytes};
-ghost use Rattle.plan.specs.Flat.{tasks_said};
+ghost use Rattle.plan.specs.Drafts.{window_bytes, channel_bytes, task_bytes, head_bytes};
+ghost use Rattle.plan.specs.Writes.{Puts};
 
 use crate::head::{Header, PartHead};
+use crate::record::TIME;
 use model::plan::{Channel, Task, Window};
-use octets::{write_u8, write_u16, write_u32};
+use octets::{Number, copy, write};
 
-/// Writes what a plan begins with.
-pub(crate) fn write_header(out: &mut [u8], h: Header)
-    requires { 10 ≤ length out.old }
-    ensures after { out.new ≡ put out.old 0 (header.write h) }
-{
-    write_u32(out, 0, 0x454d_4954);
-    write_u16(out, 4, h.system);
-    write_u8(out, 6, h.partitions);
-    write_u16(out, 7, h.windows);
-    write_u8(out, 9, h.channels);
+/// What can be written into a plan's bytes.
+pub(crate) trait ToBytes: Copy {
+    /// Its bytes.
+    ghost bytes: { Self → List ℕ };
+
+    /// Whether its numbers fit into them.
+    ghost can_write: { Self → Type 0 } = { λ _. Unit {0} };
+
+    /// Writes it at `k`; the place behind it.
+    fn write(self, out: &mut [u8], k: usize) -> usize
+        requires fits { can_write self }
+        requires room { k + length (bytes self) ≤ length out.old }
+        ensures puts { Puts out.old out.new k result (bytes self) };
 }
 
-fn write_window(out: &mut [u8], k: usize, w: Window)
-    requires { k + 5 ≤ length out.old }
-    ensures after { out.new ≡ put out.old k (window_bytes w) }
-{
-    write_u8(out, k, w.partition);
-    write_u32(out, k + 1, w.ticks);
-}
-
-fn write_channel(out: &mut [u8], k: usize, c: Channel)
-    requires { k + 5 ≤ length out.old }
-    ensures after { out.new ≡ put out.old k (channel_bytes c) }
-{
-    write_u8(out, k, c.from);
-    write_u8(out, k + 1, c.to);
-    write_u16(out, k + 2, c.bytes);
-    write_u8(out, k + 4, c.places);
-}
-
-fn write_task(out: &mut [u8], k: usize, t: Task)
-    requires { k + 10 ≤ length out.old }
-    ensures after { out.new ≡ put out.old k (task_bytes t) }
-{
-    write_u8(out, k, t.priority);
-    write_u32(out, k + 1, t.period);
-    write_u32(out, k + 5, t.deadline);
-    write_u8(out, k + 9, t.lates);
-}
-
-fn write_head(out: &mut [u8], k: usize, p: PartHead)
-    requires { k + 3 ≤ length out.old }
-    ensures after { out.new ≡ put out.old k (head_bytes p) }
-{
-    write_u16(out, k, p.pages);
-    write_u8(out, k + 2, p.tasks);
-}
-
-/// Writes the windows, one behind the other.
-pub(crate) fn write_windows(out: &mut [u8], from: usize, windows: &[Window])
-    requires { from + 5 * length windows.now ≤ length out.old }
-    ensures after { out.new ≡ put out.old from (flat_map window_bytes windows.now) }
+/// Writes all of them from `k` on, one behind the other; the place behind them.
+pub(crate) fn write_all<R: ToBytes>(out: &mut [u8], from: usize, records: &[R]) -> usize
+    requires fit { All R.can_write records.now }
+    requires room { from + length (flat_map R.bytes records.now) ≤ length out.old }
+    ensures puts { Puts out.old out.new from result (flat_map R.bytes records.now) }
 {
     let mut k = from;
-    for w in windows {
-        write_window(out, k, *w);
-        k += 5;
+    for r in records {
+        k = r.write(out, k);
+    }
+    k
+}
+
+/// Writes a number at `k`; the place behind it.
+fn put<N: Number>(out: &mut [u8], k: usize, v: N) -> usize
+    requires { k + N.SIZE ≤ length out.old }
+    ensures puts { Puts out.old out.new k result (bytes_of N.SIZE (N.value v)) }
+    ensures place { result ≡ k + N.SIZE }
+{
+    write(out, k, v);
+    k + N::SIZE
+}
+
+/// Copies bytes in at `k`; the place behind them.
+pub(crate) fn put_bytes(out: &mut [u8], k: usize, bytes: &[u8]) -> usize
+    requires { k + length bytes.now ≤ length out.old }
+    ensures puts { Puts out.old out.new k result bytes.now }
+{
+    copy(out, k, bytes);
+    k + bytes.len()
+}
+
+impl ToBytes for Header {
+    ghost bytes = { header.write };
+
+    #[tactic(auto, using(crate::proofs::Writing::lengths))]
+    fn write(self, out: &mut [u8], k: usize) -> usize {
+        let k = put(out, k, TIME);
+        let k = put(out, k, self.system);
+        let k = put(out, k, self.partitions);
+        let k = put(out, k, self.windows);
+        put(out, k, self.channels)
     }
 }
 
-/// Writes the channels, one behind the other.
-pub(crate) fn write_channels(out: &mut [u8], from: usize, channels: &[Channel])
-    requires { from + 5 * length channels.now ≤ length out.old }
-    ensures after { out.new ≡ put out.old from (flat_map channel_bytes channels.now) }
-{
-    let mut k = from;
-    for c in channels {
-        write_channel(out, k, *c);
-        k += 5;
+impl ToBytes for Window {
+    ghost bytes = { window_bytes };
+
+    #[tactic(auto, using(crate::proofs::Writing::lengths))]
+    fn write(self, out: &mut [u8], k: usize) -> usize {
+        let k = put(out, k, self.partition);
+        put(out, k, self.ticks)
     }
 }
 
-/// Writes tasks, one behind the other.
-fn write_tasks(out: &mut [u8], from: usize, tasks: &[Task])
-    requires { from + 10 * length tasks.now ≤ length out.old }
-    ensures after { out.new ≡ put out.old from (flat_map task_bytes tasks.now) }
-{
-    let mut k = from;
-    for t in tasks {
-        write_task(out, k, *t);
-        k += 10;
+impl ToBytes for Channel {
+    ghost bytes = { channel_bytes };
+
+    #[tactic(auto, using(crate::proofs::Writing::lengths))]
+    fn write(self, out: &mut [u8], k: usize) -> usize {
+        let k = put(out, k, self.from);
+        let k = put(out, k, self.to);
+        let k = put(out, k, self.bytes);
+        put(out, k, self.places)
     }
 }
 
-/// Writes a partition's part, with its tasks.
-fn write_part(out: &mut [u8], k: usize, p: PartHead, tasks: &[Task])
-    requires { k + 3 + 10 * length tasks.now ≤ length out.old }
-    ensures after { out.new ≡ put out.old k (head_bytes p ++ flat_map task_bytes tasks.now) }
-{
-    write_head(out, k, p);
-    write_tasks(out, k + 3, tasks);
+impl ToBytes for Task {
+    ghost bytes = { task_bytes };
+
+    #[tactic(auto, using(crate::proofs::Writing::lengths))]
+    fn write(self, out: &mut [u8], k: usize) -> usize {
+        let k = put(out, k, self.priority);
+        let k = put(out, k, self.period);
+        let k = put(out, k, self.deadline);
+        put(out, k, self.lates)
+    }
 }
 
-/// Writes the partitions' parts, each with its tasks out of the row of all.
-pub(crate) fn write_parts(out: &mut [u8], from: usize, parts: &[PartHead], tasks: &[Task])
-    requires room { from + 3 * length parts.now + 10 * length tasks.now ≤ length out.old }
-    requires said { tasks_said parts.now ≡ length tasks.now }
-    requires few { length tasks.now ≤ 512 }
-    ensures after { out.new ≡ put out.old from (parts_bytes parts.now tasks.now) }
-{
-    let mut k = from;
-    let mut t = 0;
-    for p in parts {
-        let n = usize::from(p.tasks);
-        let e = t + n;
-        write_part(out, k, *p, &tasks[t..e]);
-        k += 3 + 10 * n;
-        t = e;
+impl ToBytes for PartHead {
+    ghost bytes = { head_bytes };
+
+    #[tactic(auto, using(crate::proofs::Writing::lengths))]
+    fn write(self, out: &mut [u8], k: usize) -> usize {
+        let k = put(out, k, self.pages);
+        put(out, k, self.tasks)
     }
 }

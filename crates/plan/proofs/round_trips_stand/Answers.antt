@@ -1,5 +1,5 @@
 use Rattle.plan.proofs.Exact.{reads_all, writes_back}
-use Rattle.plan.proofs.Flattened.{drafts_all}
+use Rattle.plan.proofs.Drafted.{drafts_all}
 use Rattle.plan.proofs.round_trips_stand.Goals as goal
 
 pub returns : goal.returns

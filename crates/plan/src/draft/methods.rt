@@ -1,17 +1,63 @@
 //! A draft as bytes.
-ghost use Rattle.std.specs.Prelude.{◌≡◌, ◌≤◌, length, take, IfOk, MatchOption};
+ghost use Rattle.std.specs.Prelude.{◌≡◌, ◌+◌, ◌≤◌, length, take, IfOk, IfSome, MatchOption};
+ghost use Rattle.std.specs.List.{flat_map, All};
 ghost use Rattle.codec.specs.Codec.{got};
 ghost use Rattle.octets.specs.Bytes.{put};
 ghost use Rattle.plan.specs.Layout.{read_plan, write_plan};
 ghost use Rattle.plan.specs.Bounds.{InBounds};
-ghost use Rattle.plan.specs.Drafts.{draft_image, Counted, Wrote};
+ghost use Rattle.plan.specs.Given.{Fits};
+ghost use Rattle.plan.specs.Drafts.{given, part_bytes, memory_bytes, draft_image, draft_bytes, Counted, Wrote};
+ghost use Rattle.plan.specs.Writes.{Puts};
 
-use super::{Draft, Unwritten};
+use super::{Draft, DraftPart, Unwritten};
 use crate::check::PAGE;
-use crate::head::Header;
-use crate::sums::added_up;
-use crate::write::{write_channels, write_header, write_parts, write_windows};
-use octets::copy;
+use crate::head::{Header, PartHead};
+use crate::record::{FromBytes, HEADER};
+use crate::write::{ToBytes, put_bytes, write_all};
+use model::plan::{Channel, Task, Window};
+
+impl DraftPart<'_> {
+    /// How many bytes the part and the memory have; none where their numbers do not fit into the part's head.
+    fn size(&self) -> Option<usize>
+        ensures value { MatchOption result (Fits (given self.now) → ⊥) (λ n. Fits (given self.now) × (n ≡ length (part_bytes self.now) + length (memory_bytes self.now))) }
+        ensures bound { IfSome result (λ n. n ≤ 268435456) }
+    {
+        let tasks = self.tasks.len();
+        let memory = self.memory.len();
+        if tasks > 255 || memory % PAGE != 0 || memory / PAGE > 65_535 {
+            return None;
+        }
+        Some(PartHead::SIZE + Task::SIZE * tasks + memory)
+    }
+}
+
+impl ToBytes for DraftPart<'_> {
+    ghost bytes = { part_bytes };
+
+    ghost can_write = { λ p. Fits (given p) };
+
+    #[tactic(auto, using(crate::proofs::Writing::lengths))]
+    fn write(self, out: &mut [u8], k: usize) -> usize {
+        let head = PartHead {
+            pages: (self.memory.len() / PAGE) as u16,
+            tasks: self.tasks.len() as u8,
+        };
+        let k = head.write(out, k);
+        write_all(out, k, self.tasks)
+    }
+}
+
+/// Writes all memories from `k` on, one behind the other.
+fn write_memories(out: &mut [u8], from: usize, parts: &[DraftPart<'_>]) -> usize
+    requires { from + length (flat_map memory_bytes parts.now) ≤ length out.old }
+    ensures puts { Puts out.old out.new from result (flat_map memory_bytes parts.now) }
+{
+    let mut k = from;
+    for part in parts {
+        k = put_bytes(out, k, part.memory);
+    }
+    k
+}
 
 impl Draft<'_> {
     /// How many bytes the plan has; none where the draft does not add up.
@@ -20,43 +66,34 @@ impl Draft<'_> {
     {
         let windows = self.windows.len();
         let channels = self.channels.len();
-        let parts = self.parts.len();
-        let tasks = self.tasks.len();
-        let memories = self.memories.len();
-        if windows > 256 || channels > 128 || parts > 32 || tasks > 512 {
+        if windows > 256 || channels > 128 || self.parts.len() > 32 {
             return None;
         }
-        let sum = added_up(self.parts);
-        if sum.tasks != tasks || PAGE * sum.pages != memories {
-            return None;
+        let mut size = HEADER + Window::SIZE * windows + Channel::SIZE * channels;
+        for part in self.parts {
+            size += part.size()?;
         }
-        Some(10 + 5 * windows + 5 * channels + 3 * parts + 10 * tasks + memories)
+        Some(size)
     }
 
-    /// Writes the plan's bytes at the front.
-    fn fill(&self, out: &mut [u8])
+    /// Writes the plan's bytes at the front; the place behind them.
+    #[tactic(auto, using(crate::proofs::Writing::lengths))]
+    fn fill(&self, out: &mut [u8]) -> usize
         requires counted { Counted self.now }
-        requires room { length (write_plan (draft_image self.now)) ≤ length out.old }
-        ensures after { out.new ≡ put out.old 0 (write_plan (draft_image self.now)) }
+        requires room { length (draft_bytes self.now) ≤ length out.old }
+        ensures puts { Puts out.old out.new 0 result (draft_bytes self.now) }
     {
-        let windows = self.windows.len();
-        let channels = self.channels.len();
-        let parts = self.parts.len();
-        let tasks = self.tasks.len();
         let h = Header {
             system: self.system,
-            partitions: parts as u8,
-            windows: windows as u16,
-            channels: channels as u8,
+            partitions: self.parts.len() as u8,
+            windows: self.windows.len() as u16,
+            channels: self.channels.len() as u8,
         };
-        let from_channels = 10 + 5 * windows;
-        let from_parts = from_channels + 5 * channels;
-        let from_memories = from_parts + 3 * parts + 10 * tasks;
-        write_header(out, h);
-        write_windows(out, 10, self.windows);
-        write_channels(out, from_channels, self.channels);
-        write_parts(out, from_parts, self.parts, self.tasks);
-        copy(out, from_memories, self.memories);
+        let from_windows = h.write(out, 0);
+        let from_channels = write_all(out, from_windows, self.windows);
+        let from_parts = write_all(out, from_channels, self.channels);
+        let from_memories = write_all(out, from_parts, self.parts);
+        write_memories(out, from_memories, self.parts)
     }
 
     /// Writes the plan's bytes at the front of a slice, and says how many they are. Where the slice is too short, or the
