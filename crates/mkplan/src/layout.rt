@@ -1,51 +1,31 @@
 //! A plan as bytes, by the writer of the library `plan`.
-ghost use Rattle.std.specs.Prelude.{◌≡◌, ◌+◌, true, length, IfOk, vec_len, OnOk};
+ghost use Rattle.std.specs.Prelude.{◌≡◌, true, length, IfOk, vec_len};
 ghost use Rattle.plan.specs.Taken.{accepts};
-ghost use Rattle.mkplan.specs.Sizes.{room};
 
 use crate::memories::Memory;
 use crate::troubles::Trouble;
-use model::plan::Task;
 use plan::check::check;
-use plan::draft::Draft;
-use plan::head::PartHead;
+use plan::draft::{Draft, DraftPart};
 use plantext::{Partition, Plan};
 use std::alloc::{AllocError, Global};
 
-/// The pages of each partition, and how many tasks it has.
-fn heads(
+/// The partitions as they are handed over: the tasks of each, and its memory.
+fn parts_of<'a>(
     heap: Global,
-    partitions: &[Partition],
-    memories: &[Memory],
-) -> Result<Vec<PartHead>, AllocError>
+    partitions: &'a [Partition],
+    memories: &'a [Memory],
+) -> Result<Vec<DraftPart<'a>>, AllocError>
     requires each { length partitions.now ≡ length memories.now }
     ensures len { IfOk result (λ v. vec_len v ≡ length partitions.now) }
 {
-    let mut all = Vec::new(heap);
-    for (i, partition) in partitions.iter().enumerate() {
-        let pages = memories[i].pages;
-        let tasks = partition.tasks.len() as u8;
-        all.push(PartHead { pages, tasks })?;
-    }
-    Ok(all)
-}
-
-/// The tasks of all partitions, in their order.
-fn tasks_of(heap: Global, partitions: &[Partition]) -> Result<Vec<Task>, AllocError> {
-    let mut all = Vec::new(heap);
-    for partition in partitions {
-        all.extend_from_slice(partition.tasks.as_slice())?;
-    }
-    Ok(all)
-}
-
-fn put_memories(out: &mut Vec<u8>, memories: &[Memory]) -> Result<(), AllocError>
-    ensures len { OnOk result (vec_len out.new ≡ vec_len out.old + room memories.now) }
-{
-    for memory in memories {
-        out.extend_from_slice(memory.bytes.as_slice())?;
-    }
-    Ok(())
+    partitions
+        .iter()
+        .zip(memories)
+        .map(|(partition, memory)| DraftPart {
+            tasks: partition.tasks.as_slice(),
+            memory: memory.bytes.as_slice(),
+        })
+        .collect(heap)
 }
 
 /// The bytes of a draft, which are a plan's.
@@ -71,17 +51,12 @@ pub fn plan_bytes(heap: Global, plan: &Plan, memories: &[Memory]) -> Result<Vec<
     requires each { vec_len plan.now.partitions ≡ length memories.now }
     ensures plan { IfOk result (λ v. accepts v.items ≡ true) }
 {
-    let parts = heads(heap, plan.partitions.as_slice(), memories)?;
-    let tasks = tasks_of(heap, plan.partitions.as_slice())?;
-    let mut all = Vec::new(heap);
-    put_memories(&mut all, memories)?;
+    let parts = parts_of(heap, plan.partitions.as_slice(), memories)?;
     let draft = Draft {
         system: plan.system,
         windows: plan.windows.as_slice(),
         channels: plan.channels.as_slice(),
         parts: parts.as_slice(),
-        tasks: tasks.as_slice(),
-        memories: all.as_slice(),
     };
     written(heap, &draft)
 }
