@@ -1,8 +1,7 @@
 -- How many bytes the parts of a plan have. Assumes nothing.
-use Rattle.std.specs.Prelude.{ℕ, ◌+◌, ◌*◌, List, [], ◌∷◌}
-use Rattle.mkplan.specs.declared.memories.Memory.{Memory}
+use Rattle.std.specs.Prelude.{ℕ, ◌*◌, List, sum_by}
+use Rattle.mkplan.specs.declared.memories.Loaded.{Loaded}
 
--- the memories
-abbrev pub room : List Memory → ℕ
-room [] = 0
-room (m ∷ ms) = m.pages * 4096 + room ms
+-- the memories of partitions
+abbrev pub room : List Loaded → ℕ
+room ps = sum_by (λ (p : Loaded). p.memory.pages * 4096) ps
