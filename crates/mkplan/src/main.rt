@@ -24,17 +24,19 @@ The programs' files are taken from the folder of TEXT.";
 /// The memory of a partition, with its program's file.
 fn load(rt: &HostRuntime, text: &str, partition: &Partition) -> Result<Memory, Fault> {
     let heap = rt.alloc();
-    let Some(file) = &partition.program else {
-        return Ok(filled(Vec::new(heap), partition.pages.unwrap_or(0))?);
-    };
-    let mut path = PathBuf::from_str(heap, text)?;
-    path.pop();
-    path.push(file.as_str())?;
-    let Ok(program) = fs::read(rt, path) else {
-        return Err(FileFault::Unreadable(file.clone()?).into());
-    };
-    let pages = plantext::fitting(heap, file.as_str(), program.len(), partition.pages)?;
-    Ok(filled(program, pages)?)
+    match &partition.memory {
+        plantext::Memory::Zeros(pages) => Ok(filled(Vec::new(heap), *pages)?),
+        plantext::Memory::Program { file, pages } => {
+            let mut path = PathBuf::from_str(heap, text)?;
+            path.pop();
+            path.push(file.as_str())?;
+            let Ok(program) = fs::read(rt, path) else {
+                return Err(FileFault::Unreadable(file.clone()?).into());
+            };
+            let pages = plantext::fitting(heap, file.as_str(), program.len(), *pages)?;
+            Ok(filled(program, pages)?)
+        }
+    }
 }
 
 /// The partitions with their memories, in their order.

@@ -13,5 +13,5 @@ pub use faults::{Fault, FileFault, Wrong};
 pub use lines::fitting;
 pub use names::{Name, Named, find, is_name};
 pub use numbers::{NumberError, number, number_within};
-pub use plans::{Partition, Plan};
+pub use plans::{Memory, Partition, Plan};
 pub use reading::{Outcome, read};

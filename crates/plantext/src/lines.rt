@@ -5,7 +5,7 @@ ghost use Rattle.plantext.specs.Numerals.{numeral};
 use crate::faults::{Fault, FileFault, LineFault, NameFault, PartFault};
 use crate::names::{Name, Named, checked, find};
 use crate::numbers::{NumberError, number_within};
-use crate::plans::Plan;
+use crate::plans::{Memory, Plan};
 use crate::words::{Kind, Part, Word, named};
 use model::plan::{Channel, Task, Window};
 use std::alloc::Global;
@@ -127,11 +127,6 @@ trait Parts {
     fn take(&mut self, said: Said) -> Result<(), Fault>;
 }
 
-/// What such a part must say.
-fn there<T: Drop>(part: Part, value: Option<T>) -> Result<T, Fault> {
-    Ok(value.ok_or(PartFault::Missing(part))?)
-}
-
 /// `system TICKS`
 pub fn system_line(line: Line) -> Result<u16, Fault>
     ensures bound { IfOk result (λ s. 16 ≤ s) }
@@ -150,21 +145,18 @@ pub fn window_line(line: Line, plan: &Plan) -> Result<Window, Fault>
     Ok(Window { partition, ticks })
 }
 
-/// The memory of a partition, as its line has it.
 #[derive(Default, Drop)]
-pub struct Memory {
-    pub program: Option<String>,
-    pub pages: Option<u16>,
+struct MemoryParts {
+    program: Option<String>,
+    pages: Option<u16>,
 }
 
-impl Parts for Memory {
+impl Parts for MemoryParts {
     fn take(&mut self, said: Said) -> Result<(), Fault> {
         match said.part() {
-            Some(part @ Part::Program) => said.put(
-                part,
-                &mut self.program,
-                |word| Ok(word.copy()?),
-            ),
+            Some(part @ Part::Program) => {
+                said.put(part, &mut self.program, |word| Ok(word.copy()?))
+            }
             Some(part @ Part::Pages) => said.put(part, &mut self.pages, |word| {
                 Ok(number_for(part, word, 1, 256)? as u16)
             }),
@@ -175,12 +167,14 @@ impl Parts for Memory {
 
 /// `partition NAME`, with `program FILE`, `pages N`, or both
 pub fn partition_line(line: Line) -> Result<Memory, Fault> {
-    let mut memory = Memory::default();
-    line.parts(&mut memory)?;
-    if memory.program.is_none() && memory.pages.is_none() {
-        return Err(PartFault::NoMemory.into());
+    let mut parts = MemoryParts::default();
+    line.parts(&mut parts)?;
+    let MemoryParts { program, pages } = parts;
+    match (program, pages) {
+        (Some(file), pages) => Ok(Memory::Program { file, pages }),
+        (None, Some(pages)) => Ok(Memory::Zeros(pages)),
+        (None, None) => Err(PartFault::NoMemory.into()),
     }
-    Ok(memory)
 }
 
 #[derive(Clone, Copy, Default)]
@@ -217,10 +211,10 @@ pub fn task_line(line: Line) -> Result<Task, Fault>
 {
     let mut parts = TaskParts::default();
     line.parts(&mut parts)?;
-    let priority = there(Part::Priority, parts.priority)?;
-    let period = there(Part::Period, parts.period)?;
-    let deadline = there(Part::Deadline, parts.deadline)?;
-    let lates = there(Part::Lates, parts.lates)?;
+    let priority = parts.priority.ok_or(PartFault::Missing(Part::Priority))?;
+    let period = parts.period.ok_or(PartFault::Missing(Part::Period))?;
+    let deadline = parts.deadline.ok_or(PartFault::Missing(Part::Deadline))?;
+    let lates = parts.lates.ok_or(PartFault::Missing(Part::Lates))?;
     if deadline > period {
         return Err(PartFault::DeadlineAbovePeriod { deadline, period }.into());
     }
@@ -276,10 +270,10 @@ pub fn channel_line(line: Line, plan: &Plan) -> Result<Channel, Fault> {
         places: None,
     };
     line.parts(&mut parts)?;
-    let from = there(Part::From, parts.from)?;
-    let to = there(Part::To, parts.to)?;
-    let bytes = there(Part::Bytes, parts.bytes)?;
-    let places = there(Part::Places, parts.places)?;
+    let from = parts.from.ok_or(PartFault::Missing(Part::From))?;
+    let to = parts.to.ok_or(PartFault::Missing(Part::To))?;
+    let bytes = parts.bytes.ok_or(PartFault::Missing(Part::Bytes))?;
+    let places = parts.places.ok_or(PartFault::Missing(Part::Places))?;
     Ok(Channel {
         from,
         to,

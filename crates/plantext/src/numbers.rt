@@ -16,6 +16,7 @@ fn digits(word: &[u8], base: u32) -> Option<u64>
     ensures value { result ≡ capped (says word.now base 0 true) }
 {
     let mut total: u64 = 0;
+    // A flag beside the total, and no Option: the total stays while a digit is wanted.
     let mut wanted = true;
     for b in word {
         if *b == b'_' {

@@ -8,11 +8,19 @@ use model::plan::{Channel, Task, Window};
 use std::alloc::Global;
 use std::convert::AsStr;
 
-/// A partition: its program's file, how many pages its line says, and its tasks.
+/// What a partition's memory holds.
+#[derive(Drop)]
+pub enum Memory {
+    /// So many pages of zeros.
+    Zeros(u16),
+    /// A program's file, in as many pages as its line says, if it says so.
+    Program { file: String, pages: Option<u16> },
+}
+
+/// A partition: its memory, and its tasks.
 #[derive(Drop)]
 pub struct Partition {
-    pub program: Option<String>,
-    pub pages: Option<u16>,
+    pub memory: Memory,
     pub tasks: Vec<Named<Task>>,
     ghost few: { vec_len tasks ≤ 16 },
 }

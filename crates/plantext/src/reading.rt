@@ -1,8 +1,6 @@
 //! A whole text, line by line.
 use crate::faults::{Fault, Lack, LineFault, Wrong};
-use crate::lines::{
-    Line, Memory, channel_line, partition_line, system_line, task_line, window_line,
-};
+use crate::lines::{Line, channel_line, partition_line, system_line, task_line, window_line};
 use crate::names::Named;
 use crate::plans::{Partition, Plan};
 use crate::words::{Kind, named, words_of};
@@ -36,13 +34,9 @@ impl Plan {
             return Err(LineFault::TooManyPartitions.into());
         }
         let name = line.name(self.partitions.as_slice())?;
-        let Memory { program, pages } = partition_line(line)?;
+        let memory = partition_line(line)?;
         let tasks = Vec::new(*self.partitions.allocator());
-        let item = Partition {
-            program,
-            pages,
-            tasks,
-        };
+        let item = Partition { memory, tasks };
         self.partitions.push(Named { name, item })?;
         Ok(())
     }
