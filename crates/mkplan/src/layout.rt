@@ -2,28 +2,26 @@
 ghost use Rattle.std.specs.Prelude.{◌≡◌, true, length, IfOk, vec_len};
 ghost use Rattle.plan.specs.Taken.{accepts};
 
-use crate::memories::Memory;
+use crate::memories::Loaded;
 use crate::troubles::Trouble;
+use model::plan::Channel;
 use plan::check::check;
 use plan::draft::{Draft, DraftPart};
-use plantext::{Partition, Plan};
+use plantext::Plan;
 use std::alloc::{AllocError, Global};
 
 /// The partitions as they are handed over: the tasks of each, and its memory.
 fn parts_of<'a>(
     heap: Global,
-    partitions: &'a [Partition],
-    memories: &'a [Memory],
+    partitions: &'a [Loaded],
 ) -> Result<Vec<DraftPart<'a>>, AllocError>
-    requires each { length partitions.now ≡ length memories.now }
     ensures len { IfOk result (λ v. vec_len v ≡ length partitions.now) }
 {
     partitions
         .iter()
-        .zip(memories)
-        .map(|(partition, memory)| DraftPart {
-            tasks: partition.tasks.as_slice(),
-            memory: memory.bytes.as_slice(),
+        .map(|loaded| DraftPart {
+            tasks: loaded.tasks.as_slice(),
+            memory: loaded.memory.bytes.as_slice(),
         })
         .collect(heap)
 }
@@ -32,30 +30,29 @@ fn parts_of<'a>(
 fn written(heap: Global, draft: &Draft) -> Result<Vec<u8>, Trouble>
     ensures plan { IfOk result (λ v. accepts v.items ≡ true) }
 {
-    let Some(size) = draft.size() else {
-        return Err(Trouble::NoPlan);
-    };
-    let mut out = Vec::new(heap);
-    out.resize(size, 0)?;
-    if draft.write(out.as_mut_slice()).is_err() {
-        return Err(Trouble::NoPlan);
-    }
-    if check(out.as_slice()).is_err() {
-        return Err(Trouble::NoPlan);
-    }
+    let size = draft.size().ok_or(Trouble::NoPlan)?;
+    let mut out = vec![in heap; 0; size]?;
+    draft
+        .write(out.as_mut_slice())
+        .map_err(|_| Trouble::NoPlan)?;
+    check(out.as_slice()).map_err(|_| Trouble::NoPlan)?;
     Ok(out)
 }
 
-/// The plan's bytes.
-pub fn plan_bytes(heap: Global, plan: &Plan, memories: &[Memory]) -> Result<Vec<u8>, Trouble>
-    requires each { vec_len plan.now.partitions ≡ length memories.now }
+/// The bytes of a plan with these partitions.
+pub fn plan_bytes(heap: Global, plan: &Plan, partitions: &[Loaded]) -> Result<Vec<u8>, Trouble>
     ensures plan { IfOk result (λ v. accepts v.items ≡ true) }
 {
-    let parts = parts_of(heap, plan.partitions.as_slice(), memories)?;
+    let parts = parts_of(heap, partitions)?;
+    let channels: Vec<Channel> = plan
+        .channels
+        .iter()
+        .map(|channel| channel.item)
+        .collect(heap)?;
     let draft = Draft {
         system: plan.system,
         windows: plan.windows.as_slice(),
-        channels: plan.channels.as_slice(),
+        channels: channels.as_slice(),
         parts: parts.as_slice(),
     };
     written(heap, &draft)

@@ -7,8 +7,8 @@ mod layout;
 mod memories;
 mod troubles;
 
-use memories::{Memory, filled};
-use plantext::{Fault, FileFault, Outcome, Partition, Wrong};
+use memories::{Loaded, Memory, filled};
+use plantext::{Fault, FileFault, Named, Outcome, Partition, Wrong};
 use std::alloc::Global;
 use std::path::PathBuf;
 use std::process::ExitCode;
@@ -24,40 +24,41 @@ The programs' files are taken from the folder of TEXT.";
 /// The memory of a partition, with its program's file.
 fn load(rt: &HostRuntime, text: &str, partition: &Partition) -> Result<Memory, Fault> {
     let heap = rt.alloc();
-    let Some(file) = &partition.program else {
-        return Ok(filled(Vec::new(heap), partition.pages.unwrap_or(0))?);
-    };
-    let mut path = PathBuf::from_str(heap, text)?;
-    path.pop();
-    path.push(file.as_str())?;
-    match fs::read(rt, path) {
-        Ok(program) => {
-            let pages = plantext::fitting(heap, file.as_str(), program.len(), partition.pages)?;
+    match &partition.memory {
+        plantext::Memory::Zeros(pages) => Ok(filled(Vec::new(heap), *pages)?),
+        plantext::Memory::Program { file, pages } => {
+            let mut path = PathBuf::from_str(heap, text)?;
+            path.pop();
+            path.push(file.as_str())?;
+            let Ok(program) = fs::read(rt, path) else {
+                return Err(FileFault::Unreadable(file.clone()?).into());
+            };
+            let pages = plantext::fitting(heap, file.as_str(), program.len(), *pages)?;
             Ok(filled(program, pages)?)
         }
-        Err(_) => Err(Fault::File(FileFault::Unreadable(file.clone()?))),
     }
 }
 
-/// The memories of the partitions, in their order.
-fn load_all(rt: &HostRuntime, text: &str, partitions: &[Partition]) -> Result<Vec<Memory>, Trouble>
+/// The partitions with their memories, in their order.
+fn load_all(
+    rt: &HostRuntime,
+    text: &str,
+    partitions: &[Named<Partition>],
+) -> Result<Vec<Loaded>, Trouble>
     ensures each { IfOk result (λ v. vec_len v ≡ length partitions.now) }
 {
-    let mut all = Vec::new(rt.alloc());
-    for partition in partitions {
-        match load(rt, text, partition) {
-            Ok(memory) => all.push(memory)?,
-            Err(fault) => {
-                let text = String::from_str(rt.alloc(), text)?;
-                return Err(Trouble::InText(
-                    text,
-                    Wrong {
-                        line: partition.line,
-                        fault,
-                    },
-                ));
-            }
-        }
+    let heap = rt.alloc();
+    let mut all = Vec::new(heap);
+    for named in partitions {
+        let partition = &named.item;
+        let line = named.name.line;
+        let memory = load(rt, text, partition).try_map_err(|fault| Trouble::in_text(
+            heap,
+            text,
+            Wrong { line, fault },
+        ))?;
+        let tasks = partition.tasks.iter().map(|task| task.item).collect(heap)?;
+        all.push(Loaded { tasks, memory })?;
     }
     Ok(all)
 }
@@ -68,46 +69,36 @@ fn made(rt: &HostRuntime, text: &str) -> Result<Vec<u8>, Trouble> {
     let Ok(source) = fs::read(rt, text) else {
         return Err(Trouble::NotRead(String::from_str(heap, text)?));
     };
-    let Outcome { plan, wrong } = plantext::read(heap, source.as_slice());
-    let memories = load_all(rt, text, plan.partitions.as_slice())?;
-    match wrong {
-        Some(wrong) => Err(Trouble::InText(String::from_str(heap, text)?, wrong)),
-        None => layout::plan_bytes(heap, &plan, memories.as_slice()),
-    }
+    let Outcome { plan, end } = plantext::read(heap, source.as_slice());
+    let partitions = load_all(rt, text, plan.partitions.as_slice())?;
+    end.try_map_err(|wrong| Trouble::in_text(heap, text, wrong))?;
+    layout::plan_bytes(heap, &plan, partitions.as_slice())
 }
 
-/// Whether the file was written, and holds these bytes when it is read again.
-fn kept(rt: &HostRuntime, plan: &str, bytes: &[u8]) -> bool {
-    if fs::write(rt, plan, bytes).is_err() {
-        return false;
-    }
-    match fs::read(rt, plan) {
-        Ok(again) => again.as_slice() == bytes,
-        Err(_) => false,
+/// Writes the file, which holds these bytes when it is read again.
+fn keep(rt: &HostRuntime, plan: &str, bytes: &[u8]) -> Result<(), Trouble> {
+    match fs::write(rt, plan, bytes).and_then(|()| fs::read(rt, plan)) {
+        Ok(again) if again.as_slice() == bytes => Ok(()),
+        _ => Err(Trouble::NotWritten(String::from_str(rt.alloc(), plan)?)),
     }
 }
 
 fn run(rt: &HostRuntime) -> Result<(), Trouble> {
-    let heap = rt.alloc();
-    let Ok(args) = env::args(rt) else {
-        return Err(Trouble::Use);
-    };
-    let words: Vec<String> = args.collect(heap)?;
-    if words.len() == 2 && words[1].as_str() == "--help" {
-        let _ = rt.println(HELP);
-        return Ok(());
+    let args = env::args(rt).map_err(|_| Trouble::Use)?;
+    let words: Vec<String> = args.collect(rt.alloc())?;
+    match words.as_slice() {
+        [_, help] if help.as_str() == "--help" => {
+            let _ = rt.println(HELP);
+        }
+        [_, text, plan] => {
+            let bytes = made(rt, text.as_str())?;
+            keep(rt, plan.as_str(), bytes.as_slice())?;
+            let many = bytes.len();
+            let _ = println!(rt; "{plan}: {many} bytes, written and read back");
+        }
+        _ => return Err(Trouble::Use),
     }
-    if words.len() != 3 {
-        return Err(Trouble::Use);
-    }
-    let bytes = made(rt, words[1].as_str())?;
-    if kept(rt, words[2].as_str(), bytes.as_slice()) {
-        let plan = words[2].as_str();
-        let many = bytes.len();
-        let _ = println!(rt; "{plan}: {many} bytes, written and read back");
-        return Ok(());
-    }
-    Err(Trouble::NotWritten(String::from_str(heap, words[2].as_str())?))
+    Ok(())
 }
 
 fn main(rt: HostRuntime) -> ExitCode {

@@ -1,6 +1,7 @@
 //! The memory of a partition.
 ghost use Rattle.std.specs.Prelude.{◌≡◌, ◌*◌, ◌≤◌, IfOk, vec_len};
 
+use model::plan::Task;
 use std::alloc::AllocError;
 
 /// What a partition's memory holds, which is so many pages.
@@ -21,4 +22,11 @@ pub fn filled(mut program: Vec<u8>, pages: u16) -> Result<Memory, AllocError>
         bytes: program,
         pages,
     })
+}
+
+/// A partition with its memory.
+#[derive(Drop)]
+pub struct Loaded {
+    pub tasks: Vec<Task>,
+    pub memory: Memory,
 }

@@ -1,40 +1,28 @@
 //! Why no plan was made.
 use plantext::Wrong;
-use std::alloc::{AllocError, AllocFailed};
-use std::fmt;
+use std::alloc::{AllocError, Global};
+use thiserror::Error;
 
 /// What `mkplan` prints where it makes no plan.
-#[derive(Drop)]
+#[derive(Debug, Drop, Error)]
 pub enum Trouble {
+    #[error("mkplan: write mkplan TEXT PLAN")]
     Use,
+    #[error("{0}: cannot be read")]
     NotRead(String),
+    #[error("{0}: cannot be written")]
     NotWritten(String),
+    #[error("{0}:{1}")]
     InText(String, Wrong),
+    #[error("mkplan: the bytes are no plan; nothing was written")]
     NoPlan,
-    Heap,
+    #[error("mkplan: no memory is left; run it where there is more")]
+    Heap(#[from(alloc)] AllocError),
 }
 
-impl From<AllocError> for Trouble {
-    fn from(_e: AllocError) -> Trouble {
-        Trouble::Heap
-    }
-}
-
-impl<T: Drop> From<AllocFailed<T>> for Trouble {
-    fn from(_e: AllocFailed<T>) -> Trouble {
-        Trouble::Heap
-    }
-}
-
-impl fmt::Display for Trouble {
-    fn fmt<W: fmt::Write>(&self, f: &mut fmt::Formatter<W>) -> fmt::Result {
-        match self {
-            Trouble::Use => write!(f, "mkplan: write mkplan TEXT PLAN"),
-            Trouble::NotRead(text) => write!(f, "{text}: cannot be read"),
-            Trouble::NotWritten(plan) => write!(f, "{plan}: cannot be written"),
-            Trouble::InText(text, wrong) => write!(f, "{text}:{wrong}"),
-            Trouble::NoPlan => write!(f, "mkplan: the bytes are no plan; nothing was written"),
-            Trouble::Heap => write!(f, "mkplan: no memory is left; run it where there is more"),
-        }
+impl Trouble {
+    /// Something is wrong in this text.
+    pub fn in_text(heap: Global, text: &str, wrong: Wrong) -> Result<Trouble, Trouble> {
+        Ok(Trouble::InText(String::from_str(heap, text)?, wrong))
     }
 }

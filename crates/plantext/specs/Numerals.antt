@@ -1,9 +1,9 @@
 -- What the digits of a number say, and its range. Assumes nothing.
-use Rattle.std.specs.Prelude.{ℕ, ◌+◌, ◌*◌, min, Bool, true, false, cond, ◌&&◌, ◌||◌, List, [], ◌∷◌, length, drop, Some, None, Option, ◌==◌, nat_le, nat_lt, slice_index}
+use Rattle.std.specs.Prelude.{ℕ, ◌+◌, ◌*◌, min, Bool, true, false, cond, ◌&&◌, ◌||◌, List, [], ◌∷◌, length, drop, Some, None, Option, Ok, Err, Result, ◌==◌, nat_le, nat_lt, slice_index}
 use Rattle.std.specs.Option.{option_map}
 use Rattle.std.specs.Char.{digit_value}
-use Rattle.plantext.specs.declared.numbers.Reading.{Reading}
-use Rattle.plantext.specs.declared.numbers.Reading.TheVariants.{Within, Outside, NoNumber}
+use Rattle.plantext.specs.declared.numbers.NumberError.{NumberError}
+use Rattle.plantext.specs.declared.numbers.NumberError.TheVariants.{NoNumber, OutOfRange}
 
 -- what the digits say that follow those that said `total`; `wanted`: a digit has to come next; 95 is `_`
 unfoldable pub says : List ℕ → ℕ → ℕ → Bool → Option ℕ
@@ -25,6 +25,6 @@ abbrev pub capped : Option ℕ → Option ℕ
 capped o = option_map (λ n. min n 4294967296) o
 
 -- a number in a range
-abbrev pub judged : Option ℕ → ℕ → ℕ → Reading
-judged None low high = NoNumber
-judged (Some n) low high = cond (nat_lt n low || nat_lt high n) Outside (Within n)
+abbrev pub judged : Option ℕ → ℕ → ℕ → Result ℕ NumberError
+judged None low high = Err NoNumber
+judged (Some n) low high = cond (nat_lt n low || nat_lt high n) (Err OutOfRange) (Ok n)

@@ -11,7 +11,7 @@ mod words;
 
 pub use faults::{Fault, FileFault, Wrong};
 pub use lines::fitting;
-pub use names::{Name, find, is_name};
-pub use numbers::{Reading, number, number_within};
-pub use plans::{Partition, Plan};
+pub use names::{Name, Named, find, is_name};
+pub use numbers::{NumberError, number, number_within};
+pub use plans::{Memory, Partition, Plan};
 pub use reading::{Outcome, read};

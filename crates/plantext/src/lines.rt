@@ -1,159 +1,183 @@
 //! What each kind of line says.
-ghost use Rattle.std.specs.Prelude.{◌≡◌, ℕ, ◌+◌, ◌*◌, ◌<◌, ◌≤◌, length, IfOk, Some, None};
+ghost use Rattle.std.specs.Prelude.{◌≡◌, ℕ, ◌+◌, ◌*◌, ◌<◌, ◌≤◌, string_bytes, IfOk, Some, None, vec_len};
 ghost use Rattle.plantext.specs.Numerals.{numeral};
 
 use crate::faults::{Fault, FileFault, LineFault, NameFault, PartFault};
-use crate::names::{Name, partition_named};
-use crate::numbers::{Reading, number_within};
-use crate::words::{Kind, Part};
+use crate::names::{Name, Named, checked, find};
+use crate::numbers::{NumberError, number_within};
+use crate::plans::{Memory, Plan};
+use crate::words::{Kind, Part, Word, named};
 use model::plan::{Channel, Task, Window};
 use std::alloc::Global;
+use std::convert::AsStr;
 
-/// The number that a word says for a part of this range.
-fn number_for(heap: Global, part: Part, word: &str, low: u32, high: u32) -> Result<u32, Fault>
-    ensures value { IfOk result (λ n. numeral word.now ≡ Some n) }
-    ensures bound { IfOk result (λ n. (low ≤ n) × (n ≤ high)) }
-{
-    match number_within(word, low, high) {
-        Reading::Within(n) => Ok(n),
-        Reading::Outside => {
-            let word = String::from_str(heap, word)?;
-            Err(Fault::Part(PartFault::OutOfRange {
-                part,
-                word,
-                low,
-                high,
-            }))
-        }
-        Reading::NoNumber => Err(Fault::Part(PartFault::NoNumber(String::from_str(heap, word)?))),
-    }
+/// A line that says something: its number, counted from 1, its kind, and the words behind the first.
+#[derive(Clone, Copy)]
+pub struct Line<'a> {
+    pub number: usize,
+    pub kind: Kind,
+    pub rest: &'a [Word],
 }
 
-/// The fault of a word too much behind the last one of a line, if there is one.
-fn no_more(heap: Global, kind: Kind, words: &[String], count: usize) -> Result<(), Fault> {
-    if words.len() <= count {
-        return Ok(());
-    }
-    let word = String::from_str(heap, words[count].as_str())?;
-    Err(Fault::Line(LineFault::TooMuch(kind, word)))
-}
-
-/// `system TICKS`
-pub fn system_line(heap: Global, words: &[String]) -> Result<u16, Fault>
-    ensures bound { IfOk result (λ s. 16 ≤ s) }
-{
-    if words.len() < 2 {
-        return Err(Fault::Line(LineFault::TicksMissing(Kind::System)));
-    }
-    let ticks = number_for(heap, Part::Ticks, words[1].as_str(), 16, 65535)?;
-    no_more(heap, Kind::System, words, 2)?;
-    Ok(ticks as u16)
-}
-
-/// `window PARTITION TICKS`
-pub fn window_line(
-    heap: Global,
-    words: &[String],
-    names: &[Name],
-    system: u16,
-) -> Result<Window, Fault>
-    requires few { length names.now ≤ 32 }
-    ensures whose { IfOk result (λ w. w.partition < length names.now) }
-    ensures bound { IfOk result (λ w. (system < w.ticks) × (w.ticks ≤ 1000000)) }
-{
-    if words.len() < 2 {
-        return Err(Fault::Name(NameFault::Missing(Kind::Window)));
-    }
-    let partition = partition_named(heap, words[1].as_str(), names)?;
-    if words.len() < 3 {
-        return Err(Fault::Line(LineFault::TicksMissing(Kind::Window)));
-    }
-    let ticks = number_for(
-        heap,
-        Part::Ticks,
-        words[2].as_str(),
-        u32::from(system) + 1,
-        1_000_000,
-    )?;
-    no_more(heap, Kind::Window, words, 3)?;
-    Ok(Window { partition, ticks })
-}
-
-/// The parts of a line: the words behind its name.
-fn parts_of(words: &[String]) -> &[String] {
-    if words.len() < 2 { words } else { &words[2..] }
-}
-
-/// The word behind a part, which has not stood before and is not the last word of its line.
-fn behind<'a>(part: Part, stood: bool, pair: &'a [String]) -> Result<&'a str, Fault> {
-    if stood {
-        return Err(Fault::Part(PartFault::Twice(part)));
-    }
-    if pair.len() < 2 {
-        return Err(Fault::Part(PartFault::NothingBehind(part)));
-    }
-    Ok(pair[1].as_str())
-}
-
-/// What a part must have.
-fn there<T: Drop>(part: Part, value: Option<T>) -> Result<T, Fault> {
-    match value {
-        Some(value) => Ok(value),
-        None => Err(Fault::Part(PartFault::Missing(part))),
-    }
-}
-
-/// A word that begins no part of such a line.
-fn unknown_part(heap: Global, kind: Kind, word: &str) -> Fault {
-    match String::from_str(heap, word) {
-        Ok(word) => Fault::Part(PartFault::UnknownWord(kind, word)),
-        Err(_) => Fault::Heap,
-    }
-}
-
-/// The memory of a partition, as its line has it.
-#[derive(Drop)]
-pub struct Memory {
-    pub program: Option<String>,
-    pub pages: Option<u16>,
-}
-
-impl Memory {
-    fn part(&mut self, heap: Global, pair: &[String]) -> Result<(), Fault> {
-        if pair.is_empty() {
-            return Ok(());
-        }
-        match pair[0].as_str() {
-            "program" => {
-                let file = behind(Part::Program, self.program.is_some(), pair)?;
-                self.program = Some(String::from_str(heap, file)?);
+impl<'a> Line<'a> {
+    /// The name of a line, its second word, which is new among the others.
+    pub fn name<T>(self, others: &[Named<T>]) -> Result<Name, Fault> {
+        let word = self.rest.first().ok_or(NameFault::Missing(self.kind))?;
+        let text = checked(word)?;
+        match find(others, word.as_str()) {
+            Some(i) => Err(NameFault::Taken {
+                kind: self.kind,
+                name: text,
+                line: others[i].name.line,
             }
-            "pages" => {
-                let word = behind(Part::Pages, self.pages.is_some(), pair)?;
-                self.pages = Some(number_for(heap, Part::Pages, word, 1, 256)? as u16);
-            }
-            word => return Err(unknown_part(heap, Kind::Partition, word)),
+            .into()),
+            None => Ok(Name {
+                text,
+                line: self.number,
+            }),
+        }
+    }
+
+    /// The ticks of a line, its last word, with so many words between the first and it.
+    fn ticks(self, between: usize, low: u32, high: u32) -> Result<u32, Fault>
+        ensures bound { IfOk result (λ n. (low ≤ n) × (n ≤ high)) }
+    {
+        let word = self
+            .rest
+            .get(between)
+            .ok_or(LineFault::TicksMissing(self.kind))?;
+        let ticks = number_for(Part::Ticks, word, low, high)?;
+        match self.rest.get(between + 1) {
+            Some(word) => Err(LineFault::TooMuch(self.kind, word.copy()?).into()),
+            None => Ok(ticks),
+        }
+    }
+
+    /// Takes the parts of a line, the words behind its name, from left to right.
+    fn parts<P: Parts>(self, parts: &mut P) -> Result<(), Fault> {
+        let mut words = self.rest.iter().skip(1);
+        while let Some(first) = words.next() {
+            parts.take(Said {
+                kind: self.kind,
+                first,
+                behind: words.next(),
+            })?;
         }
         Ok(())
     }
 }
 
-/// `partition NAME`, with `program FILE`, `pages N`, or both
-pub fn partition_line(heap: Global, words: &[String]) -> Result<Memory, Fault> {
-    let mut memory = Memory {
-        program: None,
-        pages: None,
-    };
-    for pair in parts_of(words).chunks(2) {
-        memory.part(heap, pair)?;
+/// The number that a word says for a part of this range.
+fn number_for(part: Part, word: &Word, low: u32, high: u32) -> Result<u32, Fault>
+    ensures value { IfOk result (λ n. numeral (string_bytes word.now.0) ≡ Some n) }
+    ensures bound { IfOk result (λ n. (low ≤ n) × (n ≤ high)) }
+{
+    match number_within(word.as_str(), low, high) {
+        Ok(n) => Ok(n),
+        Err(NumberError::NoNumber) => Err(PartFault::NoNumber(word.copy()?).into()),
+        Err(NumberError::OutOfRange) => Err(PartFault::OutOfRange {
+            part,
+            word: word.copy()?,
+            low,
+            high,
+        }
+        .into()),
     }
-    if memory.program.is_none() && memory.pages.is_none() {
-        return Err(Fault::Part(PartFault::NoMemory));
-    }
-    Ok(memory)
 }
 
+/// A part as it stands in a line: the word that begins it, and the word behind that if there is one.
 #[derive(Clone, Copy)]
+struct Said<'a> {
+    kind: Kind,
+    first: &'a Word,
+    behind: Option<&'a Word>,
+}
+
+impl<'a> Said<'a> {
+    fn part(self) -> Option<Part> {
+        named(self.first.as_str())
+    }
+
+    /// The fault of a word that begins no part of such a line.
+    fn unknown(self) -> Result<(), Fault> {
+        Err(PartFault::UnknownWord(self.kind, self.first.copy()?).into())
+    }
+
+    /// Puts what the word behind a part says in the part's place, which is still empty.
+    fn put<T: Drop, F: FnOnce(&Word) -> Result<T, Fault>>(
+        self,
+        part: Part,
+        place: &mut Option<T>,
+        read: F,
+    ) -> Result<(), Fault>
+        requires { F.IsAlwaysCallable read }
+    {
+        if place.is_some() {
+            return Err(PartFault::Twice(part).into());
+        }
+        let word = self.behind.ok_or(PartFault::NothingBehind(part))?;
+        *place = Some(read(word)?);
+        Ok(())
+    }
+}
+
+/// What the parts of a line say, as far as it was read.
+trait Parts {
+    /// Takes the next part.
+    fn take(&mut self, said: Said) -> Result<(), Fault>;
+}
+
+/// `system TICKS`
+pub fn system_line(line: Line) -> Result<u16, Fault>
+    ensures bound { IfOk result (λ s. 16 ≤ s) }
+{
+    Ok(line.ticks(0, 16, 65535)? as u16)
+}
+
+/// `window PARTITION TICKS`
+pub fn window_line(line: Line, plan: &Plan) -> Result<Window, Fault>
+    ensures whose { IfOk result (λ w. w.partition < vec_len plan.now.partitions) }
+    ensures bound { IfOk result (λ w. (plan.now.system < w.ticks) × (w.ticks ≤ 1000000)) }
+{
+    let word = line.rest.first().ok_or(NameFault::Missing(line.kind))?;
+    let partition = plan.partition_named(word)?;
+    let ticks = line.ticks(1, u32::from(plan.system) + 1, 1_000_000)?;
+    Ok(Window { partition, ticks })
+}
+
+#[derive(Default, Drop)]
+struct MemoryParts {
+    program: Option<String>,
+    pages: Option<u16>,
+}
+
+impl Parts for MemoryParts {
+    fn take(&mut self, said: Said) -> Result<(), Fault> {
+        match said.part() {
+            Some(part @ Part::Program) => {
+                said.put(part, &mut self.program, |word| Ok(word.copy()?))
+            }
+            Some(part @ Part::Pages) => said.put(part, &mut self.pages, |word| {
+                Ok(number_for(part, word, 1, 256)? as u16)
+            }),
+            _ => said.unknown(),
+        }
+    }
+}
+
+/// `partition NAME`, with `program FILE`, `pages N`, or both
+pub fn partition_line(line: Line) -> Result<Memory, Fault> {
+    let mut parts = MemoryParts::default();
+    line.parts(&mut parts)?;
+    let MemoryParts { program, pages } = parts;
+    match (program, pages) {
+        (Some(file), pages) => Ok(Memory::Program { file, pages }),
+        (None, Some(pages)) => Ok(Memory::Zeros(pages)),
+        (None, None) => Err(PartFault::NoMemory.into()),
+    }
+}
+
+#[derive(Clone, Copy, Default)]
 struct TaskParts {
     priority: Option<u8>,
     period: Option<u32>,
@@ -161,133 +185,101 @@ struct TaskParts {
     lates: Option<u8>,
 }
 
-impl TaskParts {
-    fn part(&mut self, heap: Global, pair: &[String]) -> Result<(), Fault> {
-        if pair.is_empty() {
-            return Ok(());
+impl Parts for TaskParts {
+    fn take(&mut self, said: Said) -> Result<(), Fault> {
+        match said.part() {
+            Some(part @ Part::Priority) => said.put(part, &mut self.priority, |word| {
+                Ok(number_for(part, word, 0, 255)? as u8)
+            }),
+            Some(part @ Part::Period) => said.put(part, &mut self.period, |word| {
+                number_for(part, word, 1, 100_000_000)
+            }),
+            Some(part @ Part::Deadline) => said.put(part, &mut self.deadline, |word| {
+                number_for(part, word, 1, 100_000_000)
+            }),
+            Some(part @ Part::Lates) => said.put(part, &mut self.lates, |word| {
+                Ok(number_for(part, word, 0, 255)? as u8)
+            }),
+            _ => said.unknown(),
         }
-        match pair[0].as_str() {
-            "priority" => {
-                let word = behind(Part::Priority, self.priority.is_some(), pair)?;
-                self.priority = Some(number_for(heap, Part::Priority, word, 0, 255)? as u8);
-            }
-            "period" => {
-                let word = behind(Part::Period, self.period.is_some(), pair)?;
-                self.period = Some(number_for(heap, Part::Period, word, 1, 100_000_000)?);
-            }
-            "deadline" => {
-                let word = behind(Part::Deadline, self.deadline.is_some(), pair)?;
-                self.deadline = Some(number_for(heap, Part::Deadline, word, 1, 100_000_000)?);
-            }
-            "lates" => {
-                let word = behind(Part::Lates, self.lates.is_some(), pair)?;
-                self.lates = Some(number_for(heap, Part::Lates, word, 0, 255)? as u8);
-            }
-            word => return Err(unknown_part(heap, Kind::Task, word)),
-        }
-        Ok(())
-    }
-
-    fn task(self) -> Result<Task, Fault>
-        ensures bound { IfOk result (λ t. t.deadline ≤ t.period) }
-    {
-        let priority = there(Part::Priority, self.priority)?;
-        let period = there(Part::Period, self.period)?;
-        let deadline = there(Part::Deadline, self.deadline)?;
-        let lates = there(Part::Lates, self.lates)?;
-        if deadline > period {
-            return Err(Fault::Part(PartFault::DeadlineAbovePeriod { deadline, period }));
-        }
-        Ok(Task {
-            priority,
-            period,
-            deadline,
-            lates,
-        })
     }
 }
 
 /// `task NAME`, with `priority N`, `period N`, `deadline N`, `lates N`
-pub fn task_line(heap: Global, words: &[String]) -> Result<Task, Fault>
+pub fn task_line(line: Line) -> Result<Task, Fault>
     ensures bound { IfOk result (λ t. t.deadline ≤ t.period) }
 {
-    let mut parts = TaskParts {
-        priority: None,
-        period: None,
-        deadline: None,
-        lates: None,
-    };
-    for pair in parts_of(words).chunks(2) {
-        parts.part(heap, pair)?;
+    let mut parts = TaskParts::default();
+    line.parts(&mut parts)?;
+    let priority = parts.priority.ok_or(PartFault::Missing(Part::Priority))?;
+    let period = parts.period.ok_or(PartFault::Missing(Part::Period))?;
+    let deadline = parts.deadline.ok_or(PartFault::Missing(Part::Deadline))?;
+    let lates = parts.lates.ok_or(PartFault::Missing(Part::Lates))?;
+    if deadline > period {
+        return Err(PartFault::DeadlineAbovePeriod { deadline, period }.into());
     }
-    parts.task()
+    Ok(Task {
+        priority,
+        period,
+        deadline,
+        lates,
+    })
 }
 
 #[derive(Clone, Copy)]
-struct ChannelParts {
+struct ChannelParts<'a> {
+    plan: &'a Plan,
     from: Option<u8>,
     to: Option<u8>,
     bytes: Option<u16>,
     places: Option<u8>,
 }
 
-impl ChannelParts {
-    fn part(&mut self, heap: Global, names: &[Name], pair: &[String]) -> Result<(), Fault>
-        requires few { length names.now ≤ 32 }
-    {
-        if pair.is_empty() {
-            return Ok(());
+impl<'a> Parts for ChannelParts<'a> {
+    fn take(&mut self, said: Said) -> Result<(), Fault> {
+        let plan = self.plan;
+        match said.part() {
+            Some(part @ Part::From) => said.put(
+                part,
+                &mut self.from,
+                |word| plan.partition_named(word),
+            ),
+            Some(part @ Part::To) => said.put(
+                part,
+                &mut self.to,
+                |word| plan.partition_named(word),
+            ),
+            Some(part @ Part::Bytes) => said.put(part, &mut self.bytes, |word| {
+                Ok(number_for(part, word, 0, 1024)? as u16)
+            }),
+            Some(part @ Part::Places) => said.put(part, &mut self.places, |word| {
+                Ok(number_for(part, word, 0, 64)? as u8)
+            }),
+            _ => said.unknown(),
         }
-        match pair[0].as_str() {
-            "from" => {
-                let word = behind(Part::From, self.from.is_some(), pair)?;
-                self.from = Some(partition_named(heap, word, names)?);
-            }
-            "to" => {
-                let word = behind(Part::To, self.to.is_some(), pair)?;
-                self.to = Some(partition_named(heap, word, names)?);
-            }
-            "bytes" => {
-                let word = behind(Part::Bytes, self.bytes.is_some(), pair)?;
-                self.bytes = Some(number_for(heap, Part::Bytes, word, 0, 1024)? as u16);
-            }
-            "places" => {
-                let word = behind(Part::Places, self.places.is_some(), pair)?;
-                self.places = Some(number_for(heap, Part::Places, word, 0, 64)? as u8);
-            }
-            word => return Err(unknown_part(heap, Kind::Channel, word)),
-        }
-        Ok(())
-    }
-
-    fn channel(self) -> Result<Channel, Fault> {
-        let from = there(Part::From, self.from)?;
-        let to = there(Part::To, self.to)?;
-        let bytes = there(Part::Bytes, self.bytes)?;
-        let places = there(Part::Places, self.places)?;
-        Ok(Channel {
-            from,
-            to,
-            bytes,
-            places,
-        })
     }
 }
 
 /// `channel NAME`, with `from PARTITION`, `to PARTITION`, `bytes N`, `places N`
-pub fn channel_line(heap: Global, words: &[String], names: &[Name]) -> Result<Channel, Fault>
-    requires few { length names.now ≤ 32 }
-{
+pub fn channel_line(line: Line, plan: &Plan) -> Result<Channel, Fault> {
     let mut parts = ChannelParts {
+        plan,
         from: None,
         to: None,
         bytes: None,
         places: None,
     };
-    for pair in parts_of(words).chunks(2) {
-        parts.part(heap, names, pair)?;
-    }
-    parts.channel()
+    line.parts(&mut parts)?;
+    let from = parts.from.ok_or(PartFault::Missing(Part::From))?;
+    let to = parts.to.ok_or(PartFault::Missing(Part::To))?;
+    let bytes = parts.bytes.ok_or(PartFault::Missing(Part::Bytes))?;
+    let places = parts.places.ok_or(PartFault::Missing(Part::Places))?;
+    Ok(Channel {
+        from,
+        to,
+        bytes,
+        places,
+    })
 }
 
 /// How many pages a memory has that holds a file of so many bytes, if the line says `pages` or not.
@@ -298,21 +290,15 @@ pub fn fitting(heap: Global, file: &str, bytes: usize, pages: Option<u16>) -> Re
 {
     if bytes > 1_048_576 {
         let file = String::from_str(heap, file)?;
-        return Err(Fault::File(FileFault::TooLong { file, bytes }));
+        return Err(FileFault::TooLong { file, bytes }.into());
     }
     match pages {
-        None => {
-            if bytes == 0 {
-                return Err(Fault::File(FileFault::Empty(String::from_str(heap, file)?)));
-            }
-            Ok(((bytes + 4095) / 4096) as u16)
+        None if bytes == 0 => Err(FileFault::Empty(String::from_str(heap, file)?).into()),
+        None => Ok(bytes.div_ceil(4096) as u16),
+        Some(pages) if bytes > usize::from(pages) * 4096 => {
+            let file = String::from_str(heap, file)?;
+            Err(FileFault::AbovePages { file, bytes, pages }.into())
         }
-        Some(pages) => {
-            if bytes > usize::from(pages) * 4096 {
-                let file = String::from_str(heap, file)?;
-                return Err(Fault::File(FileFault::AbovePages { file, bytes, pages }));
-            }
-            Ok(pages)
-        }
+        Some(pages) => Ok(pages),
     }
 }

@@ -2,20 +2,21 @@
 ghost use Rattle.std.specs.Prelude.{◌≡◌, ◌≤◌, true};
 ghost use Rattle.plantext.specs.Numerals.{says, numeral, capped, judged};
 
-/// What a word says where a number of a range belongs.
-#[derive(Clone, Copy)]
-pub enum Reading {
-    Within(u32),
-    Outside,
+/// Why a word says no number of a range.
+#[derive(Clone, Copy, Debug)]
+pub enum NumberError {
     NoNumber,
+    OutOfRange,
 }
 
 /// What the digits say in this base, or 2^32 if they say more; a digit is at both ends and on both sides of each `_`.
+#[tactic(auto, using(crate::proofs::Digits::digit_steps))]
 fn digits(word: &[u8], base: u32) -> Option<u64>
     requires { (2 ≤ base) × (base ≤ 16) }
     ensures value { result ≡ capped (says word.now base 0 true) }
 {
     let mut total: u64 = 0;
+    // A flag beside the total, and no Option: the total stays while a digit is wanted.
     let mut wanted = true;
     for b in word {
         if *b == b'_' {
@@ -36,26 +37,19 @@ fn digits(word: &[u8], base: u32) -> Option<u64>
 pub fn number(word: &str) -> Option<u64>
     ensures value { result ≡ capped (numeral word.now) }
 {
-    let bytes = word.as_bytes();
-    if bytes.len() >= 2 && bytes[0] == b'0' && bytes[1] == b'x' {
-        digits(&bytes[2..], 16)
-    } else {
-        digits(bytes, 10)
+    match word.as_bytes() {
+        [b'0', b'x', hex @ ..] => digits(hex, 16),
+        decimal => digits(decimal, 10),
     }
 }
 
 /// The number that a word says, if it is `low` to `high`.
-pub fn number_within(word: &str, low: u32, high: u32) -> Reading
+pub fn number_within(word: &str, low: u32, high: u32) -> Result<u32, NumberError>
     ensures value { result ≡ judged (numeral word.now) low high }
 {
-    match number(word) {
-        None => Reading::NoNumber,
-        Some(n) => {
-            if n < u64::from(low) || n > u64::from(high) {
-                Reading::Outside
-            } else {
-                Reading::Within(n as u32)
-            }
-        }
+    let n = number(word).ok_or(NumberError::NoNumber)?;
+    if n < u64::from(low) || n > u64::from(high) {
+        return Err(NumberError::OutOfRange);
     }
+    Ok(n as u32)
 }

@@ -1,209 +1,151 @@
 //! A whole text, line by line.
-ghost use Rattle.std.specs.Prelude.{◌≤◌, length, vec_len};
-
 use crate::faults::{Fault, Lack, LineFault, Wrong};
-use crate::lines::{Memory, channel_line, partition_line, system_line, task_line, window_line};
-use crate::names::{Name, new_name};
+use crate::lines::{Line, channel_line, partition_line, system_line, task_line, window_line};
+use crate::names::Named;
 use crate::plans::{Partition, Plan};
-use crate::words::{Kind, words_of};
+use crate::words::{Kind, named, words_of};
 use std::alloc::Global;
-
-impl Partition {
-    /// Takes a task's line.
-    fn task(&mut self, heap: Global, line: usize, words: &[String]) -> Result<(), Fault> {
-        if self.tasks.len() >= 16 {
-            return Err(Fault::Line(LineFault::TooManyTasks(self.name.clone()?)));
-        }
-        let name = new_name(heap, Kind::Task, words, line, self.task_names.as_slice())?;
-        let task = task_line(heap, words)?;
-        self.tasks.push(task)?;
-        self.task_names.push(name)?;
-        Ok(())
-    }
-}
+use std::convert::AsStr;
 
 /// What the lines up to the first fault say, and that fault. A partition's file may have one too: it stands before this.
 #[derive(Drop)]
 pub struct Outcome {
     pub plan: Plan,
-    pub wrong: Option<Wrong>,
+    pub end: Result<(), Wrong>,
+}
+
+impl Named<Partition> {
+    /// Takes a task's line.
+    fn task(&mut self, line: Line) -> Result<(), Fault> {
+        if self.item.tasks.len() >= 16 {
+            return Err(LineFault::TooManyTasks(self.name.text.clone()?).into());
+        }
+        let name = line.name(self.item.tasks.as_slice())?;
+        let item = task_line(line)?;
+        self.item.tasks.push(Named { name, item })?;
+        Ok(())
+    }
+}
+
+impl Plan {
+    /// Takes a partition's line.
+    fn partition(&mut self, line: Line) -> Result<(), Fault> {
+        if self.partitions.len() >= 32 {
+            return Err(LineFault::TooManyPartitions.into());
+        }
+        let name = line.name(self.partitions.as_slice())?;
+        let memory = partition_line(line)?;
+        let tasks = Vec::new(*self.partitions.allocator());
+        let item = Partition { memory, tasks };
+        self.partitions.push(Named { name, item })?;
+        Ok(())
+    }
+
+    /// Takes a channel's line.
+    fn channel(&mut self, line: Line) -> Result<(), Fault> {
+        if self.channels.len() >= 128 {
+            return Err(LineFault::TooManyChannels.into());
+        }
+        let name = line.name(self.channels.as_slice())?;
+        let item = channel_line(line, self)?;
+        self.channels.push(Named { name, item })?;
+        Ok(())
+    }
+
+    /// Takes a window's line.
+    fn window(&mut self, line: Line) -> Result<(), Fault> {
+        if self.windows.len() >= 256 {
+            return Err(LineFault::TooManyWindows.into());
+        }
+        let window = window_line(line, self)?;
+        self.windows.push(window)?;
+        Ok(())
+    }
+
+    /// Takes a line, with the kind of the last one that said something.
+    fn line(&mut self, line: Line, last: Option<Kind>) -> Result<(), Fault> {
+        match (line.kind, last) {
+            (Kind::System, None) => {
+                self.system = system_line(line)?;
+                Ok(())
+            }
+            (Kind::System, Some(_)) => Err(LineFault::SecondSystem.into()),
+            (_, None) => Err(LineFault::SystemNotFirst.into()),
+            (Kind::Partition, Some(_)) => self.partition(line),
+            (Kind::Task, Some(Kind::Partition | Kind::Task)) => match self.partitions.last_mut() {
+                Some(partition) => partition.task(line),
+                None => Err(LineFault::TaskOutside.into()),
+            },
+            (Kind::Task, Some(_)) => Err(LineFault::TaskOutside.into()),
+            (Kind::Channel, Some(_)) => self.channel(line),
+            (Kind::Window, Some(_)) => self.window(line),
+        }
+    }
 }
 
 #[derive(Drop)]
 struct Reader {
     heap: Global,
-    system: Option<u16>,
-    /// Whether a task line may come.
-    inside: bool,
+    /// The kind of the last line that said something.
+    last: Option<Kind>,
     plan: Plan,
-    /// The names of the partitions.
-    names: Vec<Name>,
-    channel_names: Vec<Name>,
-    ghost named: { vec_len names ≤ vec_len plan.partitions },
 }
 
 impl Reader {
-    fn new(heap: Global) -> Reader {
-        let plan = Plan {
-            system: 0,
-            partitions: Vec::new(heap),
-            channels: Vec::new(heap),
-            windows: Vec::new(heap),
-        };
-        Reader {
-            heap,
-            system: None,
-            inside: false,
-            plan,
-            names: Vec::new(heap),
-            channel_names: Vec::new(heap),
-        }
-    }
-
-    fn partition(&mut self, line: usize, words: &[String]) -> Result<(), Fault> {
-        let heap = self.heap;
-        if self.plan.partitions.len() >= 32 {
-            return Err(Fault::Line(LineFault::TooManyPartitions));
-        }
-        let name = new_name(heap, Kind::Partition, words, line, self.names.as_slice())?;
-        let Memory { program, pages } = partition_line(heap, words)?;
-        let text = name.text.clone()?;
-        let tasks = Vec::new(heap);
-        let task_names = Vec::new(heap);
-        self.plan.partitions.push(Partition {
-            name: text,
-            line,
-            program,
-            pages,
-            tasks,
-            task_names,
-        })?;
-        self.names.push(name)?;
-        self.inside = true;
-        Ok(())
-    }
-
-    fn task(&mut self, line: usize, words: &[String]) -> Result<(), Fault> {
-        if !self.inside {
-            return Err(Fault::Line(LineFault::TaskOutside));
-        }
-        match self.plan.partitions.last_mut() {
-            Some(partition) => partition.task(self.heap, line, words),
-            None => Err(Fault::Line(LineFault::TaskOutside)),
-        }
-    }
-
-    fn channel(&mut self, line: usize, words: &[String]) -> Result<(), Fault> {
-        let heap = self.heap;
-        if self.plan.channels.len() >= 128 {
-            return Err(Fault::Line(LineFault::TooManyChannels));
-        }
-        let name = new_name(
-            heap,
-            Kind::Channel,
-            words,
-            line,
-            self.channel_names.as_slice(),
-        )?;
-        let channel = channel_line(heap, words, self.names.as_slice())?;
-        self.plan.channels.push(channel)?;
-        self.channel_names.push(name)?;
-        self.inside = false;
-        Ok(())
-    }
-
-    fn window(&mut self, system: u16, words: &[String]) -> Result<(), Fault> {
-        if self.plan.windows.len() >= 256 {
-            return Err(Fault::Line(LineFault::TooManyWindows));
-        }
-        let window = window_line(self.heap, words, self.names.as_slice(), system)?;
-        self.plan.windows.push(window)?;
-        self.inside = false;
-        Ok(())
-    }
-
-    fn line(&mut self, line: usize, text: &[u8]) -> Result<(), Fault> {
+    fn line(&mut self, number: usize, text: &[u8]) -> Result<(), Fault> {
         let words = words_of(self.heap, text)?;
-        if words.is_empty() {
+        let [first, rest @ ..] = words.as_slice() else {
             return Ok(());
-        }
-        let first = words[0].as_str();
-        let Some(kind) = Kind::named(first) else {
-            return Err(Fault::Line(LineFault::UnknownWord(String::from_str(self.heap, first)?)));
         };
-        self.known_line(kind, line, words.as_slice())
-    }
-
-    fn known_line(&mut self, kind: Kind, line: usize, words: &[String]) -> Result<(), Fault> {
-        match (kind, self.system) {
-            (Kind::System, None) => {
-                let ticks = system_line(self.heap, words)?;
-                self.system = Some(ticks);
-                self.plan.system = ticks;
-                Ok(())
-            }
-            (Kind::System, Some(_)) => Err(Fault::Line(LineFault::SecondSystem)),
-            (_, None) => Err(Fault::Line(LineFault::SystemNotFirst)),
-            (Kind::Partition, Some(_)) => self.partition(line, words),
-            (Kind::Task, Some(_)) => self.task(line, words),
-            (Kind::Channel, Some(_)) => self.channel(line, words),
-            (Kind::Window, Some(system)) => self.window(system, words),
-        }
+        let Some(kind) = named(first.as_str()) else {
+            return Err(LineFault::UnknownWord(first.copy()?).into());
+        };
+        self.plan.line(Line { number, kind, rest }, self.last)?;
+        self.last = Some(kind);
+        Ok(())
     }
 
     /// What the text lacks as a whole.
-    fn lack(&self) -> Result<(), Fault> {
-        if self.system.is_none() {
-            return Err(Fault::Lack(Lack::System));
+    fn lack(&self) -> Result<(), Lack> {
+        if self.last.is_none() {
+            Err(Lack::System)
+        } else if self.plan.partitions.is_empty() {
+            Err(Lack::Partition)
+        } else if self.plan.windows.is_empty() {
+            Err(Lack::Window)
+        } else {
+            Ok(())
         }
-        if self.plan.partitions.is_empty() {
-            return Err(Fault::Lack(Lack::Partition));
-        }
-        if self.plan.windows.is_empty() {
-            return Err(Fault::Lack(Lack::Window));
-        }
-        Ok(())
     }
 
-    /// What was read, with the line's fault if it has one.
-    fn ended(self, line: usize, last: Result<(), Fault>) -> Outcome {
-        let wrong = match last {
-            Ok(()) => None,
-            Err(fault) => Some(Wrong { line, fault }),
-        };
-        Outcome {
-            plan: self.plan,
-            wrong,
+    fn text(&mut self, text: &[u8]) -> Result<(), Wrong> {
+        let mut line = 1;
+        let lines = text
+            .strip_suffix(b"\n")
+            .unwrap_or(text)
+            .split(|b| *b == b'\n');
+        for (i, text) in lines.enumerate() {
+            line = i + 1;
+            self.line(line, text)
+                .map_err(|fault| Wrong { line, fault })?;
         }
+        self.lack().map_err(|lack| Wrong {
+            line,
+            fault: lack.into(),
+        })
     }
-}
-
-/// Where the line ends that begins here.
-fn line_end(text: &[u8], start: usize) -> usize
-    requires within { start ≤ length text.now }
-    ensures low_bound { start ≤ result }
-    ensures bound { result ≤ length text.now }
-{
-    let mut end = start;
-    while end < text.len() && text[end] != b'\n' {
-        end += 1;
-    }
-    end
 }
 
 /// Reads a text up to its first fault.
 pub fn read(heap: Global, text: &[u8]) -> Outcome {
-    let mut reader = Reader::new(heap);
-    let mut line = 0;
-    let mut start = 0;
-    while start < text.len() {
-        let end = line_end(text, start);
-        line += 1;
-        if let Err(fault) = reader.line(line, &text[start..end]) {
-            return reader.ended(line, Err(fault));
-        }
-        start = end + 1;
+    let mut reader = Reader {
+        heap,
+        last: None,
+        plan: Plan::new(heap),
+    };
+    let end = reader.text(text);
+    Outcome {
+        plan: reader.plan,
+        end,
     }
-    let lack = reader.lack();
-    reader.ended(line.max(1), lack)
 }

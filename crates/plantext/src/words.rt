@@ -1,10 +1,47 @@
 //! The words of the language, and a line cut into words.
+ghost use Rattle.std.specs.Prelude.{string_bytes};
+
 use crate::faults::{Fault, LineFault};
-use std::alloc::Global;
-use std::mem;
+use std::alloc::{AllocError, Global};
+use std::convert::AsStr;
+use std::{fmt, mem};
+
+/// How a word of the language is written: the word, and what stands behind it.
+#[derive(Clone, Copy)]
+pub struct Usage {
+    pub word: &'static str,
+    pub behind: &'static str,
+}
+
+impl fmt::Display for Usage {
+    fn fmt<W: fmt::Write>(&self, f: &mut fmt::Formatter<W>) -> fmt::Result {
+        write!(f, "{} {}", self.word, self.behind)
+    }
+}
+
+/// Things that are each written with a word of the language.
+pub trait Vocabulary: Copy + 'static {
+    /// All of them that have a word.
+    fn all() -> &'static [Self];
+
+    fn usage(self) -> Usage;
+}
+
+/// The one that is written with this word.
+pub fn named<V: Vocabulary>(word: &str) -> Option<V> {
+    V::all()
+        .iter()
+        .copied()
+        .find(|one| one.usage().word == word)
+}
+
+/// Whether it is one of the fifteen words of the language.
+pub fn is_taken(word: &str) -> bool {
+    named::<Kind>(word).is_some() || named::<Part>(word).is_some()
+}
 
 /// The five kinds of lines.
-#[derive(Clone, Copy)]
+#[derive(Clone, Copy, Debug)]
 pub enum Kind {
     System,
     Partition,
@@ -13,39 +50,30 @@ pub enum Kind {
     Window,
 }
 
+impl Vocabulary for Kind {
+    fn all() -> &'static [Kind] {
+        &[
+            Kind::System,
+            Kind::Partition,
+            Kind::Task,
+            Kind::Channel,
+            Kind::Window,
+        ]
+    }
+
+    fn usage(self) -> Usage {
+        let (word, behind) = match self {
+            Kind::System => ("system", "TICKS"),
+            Kind::Partition => ("partition", "NAME"),
+            Kind::Task => ("task", "NAME"),
+            Kind::Channel => ("channel", "NAME"),
+            Kind::Window => ("window", "PARTITION TICKS"),
+        };
+        Usage { word, behind }
+    }
+}
+
 impl Kind {
-    /// The kind of the lines that begin with this word.
-    pub fn named(word: &str) -> Option<Kind> {
-        match word {
-            "system" => Some(Kind::System),
-            "partition" => Some(Kind::Partition),
-            "task" => Some(Kind::Task),
-            "channel" => Some(Kind::Channel),
-            "window" => Some(Kind::Window),
-            _ => None,
-        }
-    }
-
-    /// Its first word.
-    pub fn word(self) -> &'static str {
-        match self {
-            Kind::System => "system",
-            Kind::Partition => "partition",
-            Kind::Task => "task",
-            Kind::Channel => "channel",
-            Kind::Window => "window",
-        }
-    }
-
-    /// What stands behind that word.
-    pub fn behind(self) -> &'static str {
-        match self {
-            Kind::System => "TICKS",
-            Kind::Window => "PARTITION TICKS",
-            Kind::Partition | Kind::Task | Kind::Channel => "NAME",
-        }
-    }
-
     /// The parts that such a line may have.
     pub fn parts(self) -> &'static str {
         match self {
@@ -58,7 +86,7 @@ impl Kind {
 }
 
 /// The parts of lines, and the ticks of a system or window line.
-#[derive(Clone, Copy)]
+#[derive(Clone, Copy, Debug)]
 pub enum Part {
     Program,
     Pages,
@@ -73,36 +101,62 @@ pub enum Part {
     Ticks,
 }
 
-impl Part {
-    /// The word that it begins with.
-    pub fn word(self) -> &'static str {
-        match self {
-            Part::Program => "program",
-            Part::Pages => "pages",
-            Part::Priority => "priority",
-            Part::Period => "period",
-            Part::Deadline => "deadline",
-            Part::Lates => "lates",
-            Part::From => "from",
-            Part::To => "to",
-            Part::Bytes => "bytes",
-            Part::Places => "places",
-            Part::Ticks => "ticks",
-        }
+impl Vocabulary for Part {
+    /// Ticks stand without a word of their own.
+    fn all() -> &'static [Part] {
+        &[
+            Part::Program,
+            Part::Pages,
+            Part::Priority,
+            Part::Period,
+            Part::Deadline,
+            Part::Lates,
+            Part::From,
+            Part::To,
+            Part::Bytes,
+            Part::Places,
+        ]
     }
 
-    /// What stands behind that word.
-    pub fn behind(self) -> &'static str {
-        match self {
-            Part::Program => "FILE",
-            Part::From | Part::To => "PARTITION",
-            _ => "N",
-        }
+    fn usage(self) -> Usage {
+        let (word, behind) = match self {
+            Part::Program => ("program", "FILE"),
+            Part::Pages => ("pages", "N"),
+            Part::Priority => ("priority", "N"),
+            Part::Period => ("period", "N"),
+            Part::Deadline => ("deadline", "N"),
+            Part::Lates => ("lates", "N"),
+            Part::From => ("from", "PARTITION"),
+            Part::To => ("to", "PARTITION"),
+            Part::Bytes => ("bytes", "N"),
+            Part::Places => ("places", "N"),
+            Part::Ticks => ("ticks", "N"),
+        };
+        Usage { word, behind }
+    }
+}
+
+/// A word of a text.
+#[derive(Drop)]
+pub struct Word(String);
+
+impl AsStr for Word {
+    ghost text = { λ w. string_bytes w.0 };
+
+    fn as_str(&self) -> &str {
+        self.0.as_str()
+    }
+}
+
+impl Word {
+    /// The word again, for what is said of it.
+    pub fn copy(&self) -> Result<String, AllocError> {
+        self.0.clone()
     }
 }
 
 /// The words of a line, up to its comment.
-pub fn words_of(heap: Global, line: &[u8]) -> Result<Vec<String>, Fault> {
+pub fn words_of(heap: Global, line: &[u8]) -> Result<Vec<Word>, Fault> {
     let mut words = Vec::new(heap);
     let mut word = String::new(heap);
     for b in line {
@@ -110,15 +164,15 @@ pub fn words_of(heap: Global, line: &[u8]) -> Result<Vec<String>, Fault> {
             b'#' => break,
             b' ' | b'\t' | b'\r' => {
                 if !word.is_empty() {
-                    words.push(mem::replace(&mut word, String::new(heap)))?;
+                    words.push(Word(mem::replace(&mut word, String::new(heap))))?;
                 }
             }
             0x21..=0x7e => word.push(char::from(*b))?,
-            other => return Err(Fault::Line(LineFault::NoText(other))),
+            other => return Err(LineFault::NoText(other).into()),
         }
     }
     if !word.is_empty() {
-        words.push(word)?;
+        words.push(Word(word))?;
     }
     Ok(words)
 }
