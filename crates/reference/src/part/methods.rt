@@ -83,7 +83,8 @@ impl Partition {
         ensures heard { heard_of self.new ≡ heard_of self.old }
     {
         for (i, run) in self.tasks.iter_mut().enumerate() {
-            *run = run.woken(i as u8, time).checked(time);
+            run.wake(i as u8, time);
+            run.check(time);
         }
     }
 
@@ -116,6 +117,7 @@ impl Partition {
         ensures value { result ≡ first_ready (tasks_of self.now) 0 (runs_of self.now) }
     {
         let mut best = None;
+        // Stays a range: of `rfold` and `max_by_key` over numbered items, which of equals they give isn't proved.
         for i in (0..self.tasks.len()).rev() {
             best = self.better(i, self.tasks[i].is_ready(), best);
         }

@@ -59,34 +59,33 @@ impl Running {
     }
 
     /// A waiting task begins anew when its period is over.
-    pub(crate) fn woken(mut self, number: u8, time: u64) -> Running
-        ensures value { run_of result ≡ woken rv32i (task_of self) number time (run_of self) }
-        ensures plan { task_of result ≡ task_of self }
+    pub(crate) fn wake(&mut self, number: u8, time: u64)
+        ensures value { run_of self.new ≡ woken rv32i (task_of self.old) number time (run_of self.old) }
+        ensures plan { task_of self.new ≡ task_of self.old }
     {
         let State::Waiting = self.state else {
-            return self;
+            return;
         };
         let period = u64::from(self.plan.period);
         if time < self.began || time - self.began < period {
-            return self;
+            return;
         }
         self.state = State::Ready;
         self.core = Registers::new(number);
         self.began += period;
-        self
     }
 
     /// A ready task whose deadline has come is late.
-    pub(crate) fn checked(mut self, time: u64) -> Running
-        ensures value { run_of result ≡ checked (task_of self) time (run_of self) }
-        ensures plan { task_of result ≡ task_of self }
+    pub(crate) fn check(&mut self, time: u64)
+        ensures value { run_of self.new ≡ checked (task_of self.old) time (run_of self.old) }
+        ensures plan { task_of self.new ≡ task_of self.old }
     {
         let State::Ready = self.state else {
-            return self;
+            return;
         };
         let deadline = u64::from(self.plan.deadline);
         if time < self.began || time - self.began < deadline {
-            return self;
+            return;
         }
         self.state = if u16::from(self.plan.lates) <= self.late {
             State::Stopped
@@ -94,7 +93,6 @@ impl Running {
             State::Waiting
         };
         self.late += 1;
-        self
     }
 
     /// The task with this core.

@@ -23,13 +23,13 @@ loop-i-preserved c =
     let plan = plan_was ls xs ys i many c.loop-i.invariant r c.run-item.is here in
     let run = run_was ls xs ys i many c.loop-i.invariant r c.run-item.is here in
     let same = sym c.run-item.is in
-    done_more ls xs ys i many c.loop-i.invariant r c.checked.result c.run-item.is here (c.checked.ensures.plan ∙ c.woken.ensures.plan ∙ ap task_of same)
+    done_more ls xs ys i many c.loop-i.invariant r c.check.new.self c.run-item.is here (c.check.ensures.plan ∙ c.wake.ensures.plan ∙ ap task_of same)
     (get_or-looked rv32i ks t rs 0 i (run_of r) there
     ∙ ap (λ n. checked (get_or ks n no_task) t (woken rv32i (get_or ks n no_task) n t (get_or rs i (run_of r)))) (zero-add i)
     ∙ (λ j. checked (plan j) t (woken rv32i (plan j) i t (run j)))
     ∙ sym
-    (c.checked.ensures.value
-    ∙ (λ j. checked (c.woken.ensures.plan j) t (c.woken.ensures.value j))
+    (c.check.ensures.value
+    ∙ (λ j. checked (c.wake.ensures.plan j) t (c.wake.ensures.value j))
     ∙ (λ j. checked (task_of (same j)) t (woken rv32i (task_of (same j)) i t (run_of (same j))))))
 
 pub returns-clause-runs : goal.returns-clause-runs
