@@ -1,34 +1,17 @@
 -- How the world begins.
-use Rattle.std.proofs.Common.{◌≡◌, ℕ, zero, suc, ◌+◌, ◌<◌, ◌≤◌, ◌≢◌, List, [], ◌∷◌, map, length, get_or, set, replicate, Some, sym, refl, ap, ◌∙◌, subst, ⊎_elim, le_of_suc-le-suc, not-suc-le-zero, add-zero, add-suc, suc-add, zero-add, arith}
+use Rattle.std.proofs.Common.{◌≡◌, ℕ, zero, suc, ◌+◌, ◌<◌, ◌≤◌, ◌≢◌, List, [], ◌∷◌, map, length, get_or, set, replicate, Some, sym, refl, ap, ◌∙◌, subst, ⊎_elim, add-zero, add-suc, suc-add, zero-add, arith}
 use Rattle.std.proofs.lemmas.Bool.{cases_eq}
 use Rattle.reference.proofs.Nths.{nth_some_below}
 use Rattle.std.specs.List.{slice_get}
-use Rattle.cpu.specs.Act.{Machine}
 use Rattle.cpu.specs.Rv32i.{rv32i}
-use Rattle.model.specs.declared.plan.Task.{Task}
 use Rattle.model.specs.declared.plan.Window.{Window}
-use Rattle.model.specs.declared.plan.State.TheVariants.{Ready}
-use Rattle.model.specs.World.{Run}
-use Rattle.model.specs.Tick.{new_runs, new_parts, begin}
+use Rattle.model.specs.Tick.{new_parts, begin}
 use Rattle.reference.specs.declared.part.Partition.{Partition}
 use Rattle.reference.specs.declared.queue.Queue.{Queue}
 use Rattle.reference.specs.Letters.{sents_of}
 use Rattle.reference.specs.Parts.{New, tasks_of, part_of}
 use Rattle.reference.specs.Own.{plan_of, plans_of, channels_of}
 use Rattle.reference.specs.View.{plan_in, parts_of, world_of}
-
-module _ {C : Type 0} (M : Machine C) where
-  pub length-new_runs : (ks : List Task) (i : ℕ) → length (new_runs M i ks) ≡ length ks
-  unfolding new_runs
-  length-new_runs [] i = refl
-  length-new_runs (k ∷ ks) i = ap suc (length-new_runs ks (suc i))
-
-  pub get_or-new_runs : (ks : List Task) (i j : ℕ) (d : Run C) → j < length ks → get_or (new_runs M i ks) j d ≡ record { state = Ready; core = M.fresh (i + j); began = 0; late = 0 }
-  unfolding new_runs
-  get_or-new_runs [] i j d h = absurd (not-suc-le-zero h)
-  get_or-new_runs (k ∷ ks) i zero d h = λ n. record { state = Ready; core = M.fresh (sym (add-zero i) n); began = 0; late = 0 }
-  get_or-new_runs (k ∷ ks) i (suc j) d h =
-      get_or-new_runs ks (suc i) j d (le_of_suc-le-suc h) ∙ (λ n. record { state = Ready; core = M.fresh ((suc-add i j ∙ sym (add-suc i j)) n); began = 0; late = 0 })
 
 pub new_parts_lem :
     (xs : List Partition) (memory : ℕ → List ℕ) (ms : List (List ℕ)) (i : ℕ) → ((j : ℕ) → memory (i + j) ≡ get_or ms j []) → ((q : ℕ) (x : Partition) → slice_get xs q ≡ Some x → New x)

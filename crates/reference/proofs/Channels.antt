@@ -2,7 +2,7 @@
 use Rattle.std.proofs.Common.{◌≡◌, ℕ, ◌+◌, ◌-◌, ◌%◌, ◌≤◌, Bool, true, false, cond, ◌&&◌, ◌||◌, eqb, ltb, leb, ◌⊎◌, List, [], ◌∷◌, map, length, get_or, set, Some, None, Option, sym, refl, ap, ◌∙◌, inl, inr, ⊎_elim, arith}
 use Rattle.std.specs.List.{between, slice_get}
 use Rattle.std.proofs.lemmas.List.{length-map, map-set}
-use Rattle.std.proofs.lemmas.Bool.{cond-true, cond-false, cases_Bool, and_left, lt-ltb, le-ltb, or_parts, eqb-false}
+use Rattle.std.proofs.lemmas.Bool.{cond-true, cond-false, cases_Bool, and_left, and_right, ne_eqb, lt-ltb, le-ltb, or_parts, eqb-false}
 use Rattle.octets.specs.Bytes.{put}
 use Rattle.cpu.specs.declared.call.Answer.{Answer}
 use Rattle.cpu.specs.declared.call.Answer.TheVariants.{Value, Message}
@@ -15,7 +15,6 @@ use Rattle.reference.specs.Letters.{sents_of, sight_of, Exchange, refusing, post
 use Rattle.reference.specs.Own.{plan_of, plans_of, channels_of, seen_of, Exchanged}
 use Rattle.reference.proofs.Nths.{set_same, get_or-map_some}
 use Rattle.reference.proofs.Nths.{nth_some_below}
-use Rattle.reference.proofs.Exchanges.{post_from, collect_to}
 
 -- ---- what is seen of a channel
 
@@ -167,6 +166,14 @@ module _ (call : Part Core → ℕ → (Answer → Core) → Step Core) (m : Lis
         plans = map-set plan_of cs c new ∙ ap (set (map plan_of cs) c) p ∙ set_same (map plan_of cs) c old.plan no_channel (get_or-map_some plan_of cs c old no_channel h);
       }
 
+post_from : (q t : ℕ) (s : Sight) (m : List ℕ) (a n : ℕ) → (s.plan.from ≡ q → ⊥) → refusing s m ≡ posting q t s m a n
+unfolding posting may_send
+post_from q t s m a n h = sym (cond-false _ _ _ (and_right (leb (a + n) (length m)) _ (and_left _ _ (ne_eqb _ _ h))))
+
+collect_to : (q t : ℕ) (s : Sight) (m : List ℕ) (a : ℕ) → (s.plan.to ≡ q → ⊥) → refusing s m ≡ collecting q t s m a
+unfolding collecting
+collect_to q t s m a h = sym (cond-false _ _ _ (ne_eqb _ _ h))
+
 module _ (q t : ℕ) (cs : List Queue) (m : List ℕ) (c a : ℕ) where
   abbrev pub sending_call : ℕ → Part Core → ℕ → (Answer → Core) → Step Core
   sending_call n = λ x i then. called q t (seen_of cs q) x i (Send c a n) then
@@ -217,15 +224,15 @@ module _ (q t : ℕ) (cs : List Queue) (m : List ℕ) (c a : ℕ) where
       (seen_cases cs q c old h))
 
   -- A channel of which the partition has no end refuses it.
-  take-closed : (old : Queue) → ends old q ≡ false → refusing (sight_of old) m ≡ collecting q t (sight_of old) m a
+  take_closed : (old : Queue) → ends old q ≡ false → refusing (sight_of old) m ≡ collecting q t (sight_of old) m a
   unfolding sight_of
-  take-closed old e = collect_to q t (sight_of old) m a (eqb-false _ _ (or_parts (eqb old.plan.from q) _ e).1)
+  take_closed old e = collect_to q t (sight_of old) m a (eqb-false _ _ (or_parts (eqb old.plan.from q) _ e).1)
 
-  pub take-there :
+  pub take_there :
       (old new : Queue) (r : Answer) (m' : List ℕ) → slice_get cs c ≡ Some old → new.plan ≡ old.plan
       → record { answer = r; messages = sents_of new; memory = m' } ≡ collecting q t (sight_of old) m a → Exchanged taking_call m m' cs (set cs c new) r
   unfolding called with_memory sight_of takes refused refusing changed
-  take-there old new r m' h p f =
+  take_there old new r m' h p f =
       exchange_done taking_call m cs c old new r m' (collecting q t (sight_of old) m a) h p f
       (λ x i then.
       ⊎_elim
@@ -234,7 +241,7 @@ module _ (q t : ℕ) (cs : List Queue) (m : List ℕ) (c a : ℕ) where
       ∙ takes_part q t (seen_of cs q) (with_memory x m) i then c a (sight_of old))
       (λ (e : (seen_of cs q c ≡ None) × (ends old q ≡ false)).
       ap (λ o. (takes q t (seen_of cs q) (with_memory x m) i then c a o).part) e.0
-      ∙ ap (λ (z : Exchange). changing (with_memory x z.memory) i (goes_on (then z.answer))) (take-closed old e.1))
+      ∙ ap (λ (z : Exchange). changing (with_memory x z.memory) i (goes_on (then z.answer))) (take_closed old e.1))
       (seen_cases cs q c old h))
       (λ x i then ds g.
       ⊎_elim
@@ -244,5 +251,5 @@ module _ (q t : ℕ) (cs : List Queue) (m : List ℕ) (c a : ℕ) where
       (λ (e : (seen_of cs q c ≡ None) × (ends old q ≡ false)).
       ap (λ o. changed (takes q t (seen_of cs q) (with_memory x m) i then c a o).change ds) e.0
       ∙ sym (set_same ds c (sents_of old) [] g)
-      ∙ ap (λ (z : Exchange). set ds c z.messages) (take-closed old e.1))
+      ∙ ap (λ (z : Exchange). set ds c z.messages) (take_closed old e.1))
       (seen_cases cs q c old h))

@@ -1,14 +1,30 @@
--- A partition's tasks, looked at one after the other, and the one that goes first.
-use Rattle.std.proofs.Common.{◌≡◌, ℕ, zero, suc, ◌+◌, ◌<◌, ◌≤◌, Bool, true, false, cond, List, [], ◌∷◌, length, get_or, drop, Some, None, Option, sym, refl, ap, ◌∙◌, le_of_suc-le-suc, not-suc-le-zero, add-zero, add-suc, suc-add, zero-add, add-one}
-use Rattle.std.proofs.lemmas.List.{at_drop_more, drop_all, length-map}
-use Rattle.std.proofs.lemmas.Bool.{lt-ltb, le-ltb}
+-- A partition's tasks, made new or looked at one after the other, and the one that goes first.
+use Rattle.std.proofs.Common.{◌≡◌, ℕ, zero, suc, ◌+◌, ◌<◌, ◌≤◌, List, [], ◌∷◌, ◌++◌, map, length, get_or, set, take, drop, None, sym, refl, ap, ◌∙◌, le_of_suc-le-suc, not-suc-le-zero, add-zero, add-suc, suc-add, add-one, arith}
+use Rattle.std.specs.List.{refill}
+use Rattle.std.proofs.lemmas.List.{at_drop_more, drop_all, take_all, append-nil, length-map, map-set, get_or-map}
+use Rattle.std.proofs.Math.Seq.{map-set_same}
 use Rattle.cpu.specs.Act.{Machine}
+use Rattle.cpu.specs.Core.{Core}
 use Rattle.model.specs.declared.plan.Task.{Task}
+use Rattle.model.specs.declared.plan.State.TheVariants.{Ready}
 use Rattle.model.specs.World.{Run, no_task}
-use Rattle.reference.specs.declared.part.Partition.{Partition}
-use Rattle.reference.specs.Rows.{held}
-use Rattle.reference.specs.Parts.{tasks_of, runs_of, task_of, run_of}
-use Rattle.model.specs.Tick.{woken, checked, looked, first_ready, better, is_ready, first_heard, no}
+use Rattle.model.specs.Tick.{woken, checked, looked, first_ready, better, is_ready, new_runs}
+use Rattle.reference.specs.declared.task.Running.{Running}
+use Rattle.reference.specs.Parts.{task_of, run_of}
+use Rattle.reference.proofs.Nths.{renewed_more, renewed_all, get_or_renewed}
+
+module _ {C : Type 0} (M : Machine C) where
+  pub length-new_runs : (ks : List Task) (i : ℕ) → length (new_runs M i ks) ≡ length ks
+  unfolding new_runs
+  length-new_runs [] i = refl
+  length-new_runs (k ∷ ks) i = ap suc (length-new_runs ks (suc i))
+
+  pub get_or-new_runs : (ks : List Task) (i j : ℕ) (d : Run C) → j < length ks → get_or (new_runs M i ks) j d ≡ record { state = Ready; core = M.fresh (i + j); began = 0; late = 0 }
+  unfolding new_runs
+  get_or-new_runs [] i j d h = absurd (not-suc-le-zero h)
+  get_or-new_runs (k ∷ ks) i zero d h = λ n. record { state = Ready; core = M.fresh (sym (add-zero i) n); began = 0; late = 0 }
+  get_or-new_runs (k ∷ ks) i (suc j) d h =
+      get_or-new_runs ks (suc i) j d (le_of_suc-le-suc h) ∙ (λ n. record { state = Ready; core = M.fresh ((suc-add i j ∙ sym (add-suc i j)) n); began = 0; late = 0 })
 
 module _ {C : Type 0} (M : Machine C) (ks : List Task) (t : ℕ) where
   pub length-looked : (rs : List (Run C)) (j : ℕ) → length (looked M ks j t rs) ≡ length rs
@@ -26,16 +42,41 @@ module _ {C : Type 0} (M : Machine C) (ks : List Task) (t : ℕ) where
       get_or-looked rs (suc j) i d (le_of_suc-le-suc h)
       ∙ ap (λ n. checked (get_or ks n no_task) t (woken M (get_or ks n no_task) n t (get_or rs i d))) (suc-add j i ∙ sym (add-suc j i))
 
-  -- The task at a place, when it has been looked at.
-  pub looked_at :
-      (rs : List (Run C)) (i : ℕ) (k : Task) (r r' d : Run C) → i < length rs → get_or ks i no_task ≡ k → get_or rs i d ≡ r → r' ≡ checked k t (woken M k i t r)
-      → get_or (looked M ks 0 t rs) i d ≡ r'
-  looked_at rs i k r r' d h ek er e =
-      get_or-looked rs 0 i d h
-      ∙ ap (λ n. checked (get_or ks n no_task) t (woken M (get_or ks n no_task) n t (get_or rs i d))) (zero-add i)
-      ∙ ap (λ x. checked x t (woken M x i t (get_or rs i d))) ek
-      ∙ ap (λ x. checked k t (woken M k i t x)) er
-      ∙ sym e
+-- ---- one task after the other
+
+-- The tasks are xs at first; those before place i are then as ls says, the others as they were.
+abbrev pub Done : List (Run Core) → List Running → ℕ → List Running → Type 0
+Done ls xs i ys = (map task_of ys ≡ map task_of xs) × (map run_of ys ≡ take i ls ++ drop i (map run_of xs))
+
+module _ (ls : List (Run Core)) (xs ys : List Running) (i : ℕ) (many : length ls ≡ length xs) (done : Done ls xs i ys) where
+  as_many : length ys ≡ length xs
+  as_many = sym (length-map ys task_of) ∙ ap length done.0 ∙ length-map xs task_of
+
+  all_many : length ls ≡ length (map run_of xs)
+  all_many = many ∙ sym (length-map xs run_of)
+
+  -- The task at hand is as at first.
+  pub plan_was : (r : Running) → r ≡ get_or ys i r → i < length ys → get_or (map task_of xs) i no_task ≡ task_of r
+  plan_was r e h = ap (λ zs. get_or zs i no_task) (sym done.0) ∙ get_or-map task_of ys i r no_task h ∙ ap task_of (sym e)
+
+  pub run_was : (r : Running) → r ≡ get_or ys i r → i < length ys → get_or (map run_of xs) i (run_of r) ≡ run_of r
+  run_was r e h =
+      sym (get_or_renewed ls (map run_of xs) i (run_of r) all_many (omega (arith, as_many, length-map xs run_of)))
+      ∙ ap (λ zs. get_or zs i (run_of r)) (sym done.1)
+      ∙ get_or-map run_of ys i r (run_of r) h
+      ∙ ap run_of (sym e)
+
+  pub done_more : (r r' : Running) → r ≡ get_or ys i r → i < length ys → task_of r' ≡ task_of r → get_or ls i (run_of r) ≡ run_of r' → Done ls xs (i + 1) (set ys i r')
+  done_more r r' e h p g = (
+    map-set_same task_of ys i r' r (p ∙ ap task_of e) ∙ done.0,
+    map-set run_of ys i r' ∙ ap (λ zs. set zs i (run_of r')) done.1 ∙ renewed_more ls (map run_of xs) i (run_of r') (run_of r) all_many (omega (arith, as_many, length-map xs run_of)) g,
+  )
+
+  pub done_all : length ys ≤ i → map run_of (refill (length xs) xs ys) ≡ ls
+  done_all h =
+      ap (map run_of) (ap (λ zs. take (length xs) (ys ++ zs)) (drop_all (length ys) xs (omega (arith, as_many))) ∙ ap (take (length xs)) (append-nil ys) ∙ take_all (length xs) ys (omega (arith, as_many)))
+      ∙ done.1
+      ∙ renewed_all ls (map run_of xs) i all_many (omega (arith, as_many, length-map xs run_of))
 
 module _ {C : Type 0} (ks : List Task) where
   pub first_none : (rs : List (Run C)) (i : ℕ) → length rs ≤ i → None ≡ first_ready ks i (drop i rs)
@@ -49,33 +90,3 @@ module _ {C : Type 0} (ks : List Task) where
   first_more rs i d h =
       at_drop_more (first_ready ks i) rs i d h
       ∙ ap (λ n. better ks i (is_ready (get_or rs i d).state) (first_ready ks n (drop (i + 1) rs))) (sym (add-one i))
-
-module _ (ks : List Task) (i : ℕ) where
-  pub better_not : (b : Bool) (o : Option ℕ) → b ≡ false → o ≡ better ks i b o
-  unfolding better
-  better_not b o e = sym (ap (λ x. better ks i x o) e)
-
-  pub better_none : (b : Bool) (o : Option ℕ) → b ≡ true → o ≡ None → Some i ≡ better ks i b o
-  unfolding better
-  better_none b o e f = sym (ap (λ x. better ks i x o) e ∙ ap (better ks i true) f)
-
-  pub better_higher : (b : Bool) (o : Option ℕ) (j : ℕ) → b ≡ true → o ≡ Some j → (get_or ks i no_task).priority < (get_or ks j no_task).priority → Some j ≡ better ks i b o
-  unfolding better
-  better_higher b o j e f h = sym (ap (λ x. better ks i x o) e ∙ ap (better ks i true) f ∙ ap (λ x. Some (cond x j i)) (lt-ltb _ _ h))
-
-  pub better_first : (b : Bool) (o : Option ℕ) (j : ℕ) → b ≡ true → o ≡ Some j → (get_or ks j no_task).priority ≤ (get_or ks i no_task).priority → Some i ≡ better ks i b o
-  unfolding better
-  better_first b o j e f h = sym (ap (λ x. better ks i x o) e ∙ ap (better ks i true) f ∙ ap (λ x. Some (cond x j i)) (le-ltb _ _ h))
-
-pub first_heard_lem : (bs : List ℕ) (b : ℕ) (rest : List ℕ) → bs ≡ b ∷ rest → b ≡ first_heard bs
-unfolding first_heard
-first_heard_lem bs b rest e = sym (ap first_heard e)
-
-pub none_heard : (bs : List ℕ) → bs ≡ [] → no ≡ first_heard bs
-unfolding first_heard
-none_heard bs e = sym (ap first_heard e)
-
--- As many tasks as plans of them.
-pub same_many : (x y : Partition) → tasks_of x ≡ tasks_of y → length (held x.tasks) ≡ length (runs_of y)
-unfolding tasks_of runs_of
-same_many x y e = sym (length-map (held x.tasks) task_of) ∙ ap length e ∙ length-map (held y.tasks) task_of ∙ sym (length-map (held y.tasks) run_of)

@@ -1,7 +1,7 @@
 -- A partition's own tick, from what was done to its tasks.
-use Rattle.std.proofs.Common.{◌≡◌, ℕ, zero, suc, true, List, [], ◌∷◌, ◌++◌, map, drop, Some, None, Option, sym, refl, ap, ◌∙◌, subst, arith, MatchOption}
+use Rattle.std.proofs.Common.{◌≡◌, ℕ, zero, suc, ◌<◌, length, List, [], ◌∷◌, ◌++◌, map, drop, Some, None, Option, sym, refl, ap, ◌∙◌, subst, arith, MatchOption}
 use Rattle.std.specs.List.{slice_get}
-use Rattle.std.proofs.lemmas.List.{append-nil, drop_all, length-map}
+use Rattle.std.proofs.lemmas.List.{append-nil, length-map}
 use Rattle.cpu.specs.Core.{Core}
 use Rattle.cpu.specs.Rv32i.{rv32i, act}
 use Rattle.model.specs.declared.plan.State.{State}
@@ -9,15 +9,13 @@ use Rattle.model.specs.declared.plan.State.TheVariants.{Ready}
 use Rattle.model.specs.World.{Run}
 use Rattle.model.specs.Promise.{GoesFirst, ReadyAt}
 use Rattle.model.proofs.Priority.{first_ready_lem}
-use Rattle.model.specs.Tick.{Step, Sight, none, changed, changing, with_tasks, update, is_ready, looked, first_ready, does, instruction, part_tick, acted}
+use Rattle.model.specs.Tick.{Step, Sight, none, changed, changing, with_tasks, update, looked, first_ready, does, instruction, part_tick, acted}
 use Rattle.reference.specs.declared.part.Partition.{Partition}
 use Rattle.reference.specs.declared.queue.Queue.{Queue}
 use Rattle.reference.specs.declared.task.Running.{Running}
-use Rattle.reference.specs.Rows.{held}
-use Rattle.reference.specs.Parts.{run_of, runs_of, tasks_of, heard_of, part_of}
+use Rattle.reference.specs.Parts.{run_of, task_of, runs_of, tasks_of, heard_of, part_of}
 use Rattle.reference.specs.Own.{Did, said, plans_of, channels_of}
-use Rattle.reference.proofs.Nths.{nth-none_past, nth-map_some}
-use Rattle.reference.proofs.Tasks.{is_ready_lem}
+use Rattle.reference.proofs.Nths.{nth_some_below, nth-map_some}
 
 module _ (step : List (ℕ × ℕ) → Step Core) (t : ℕ) (x y : Partition) (m : List ℕ) (h : List ℕ) (i : ℕ) (f : Run Core → Run Core) (cs ds : List Queue) (r : Option ℕ) where
   -- One task of x was changed by f, and the partition is y.
@@ -63,10 +61,16 @@ did_as step other t y m cs ds r e d =
       plans = d.plans;
     }
 
--- The same memory under another name.
-pub did_memory :
-    (step : List (ℕ × ℕ) → Step Core) (t : ℕ) (y : Partition) (m n : List ℕ) (cs ds : List Queue) (r : Option ℕ) → n ≡ m → Did step t y m cs ds r → Did step t y n cs ds r
-did_memory step t y m n cs ds r e d = subst (λ z. Did step t y z cs ds r) (sym e) d
+-- The same part, memory and channels under other names.
+pub did_lent :
+    (step : List (ℕ × ℕ) → Step Core) (t : ℕ) (x y : Partition) (m n : List ℕ) (cs ds es : List Queue) (r : Option ℕ)
+    → y ≡ x → n ≡ m → es ≡ ds → Did step t x m cs ds r → Did step t y n cs es r
+did_lent step t x y m n cs ds es r ex em ec d =
+    record {
+      part = λ s. (λ j. part_of (ex j) (em j) (s ++ said t r)) ∙ d.part s;
+      change = λ s. ap channels_of ec ∙ d.change s;
+      plans = ap plans_of ec ∙ d.plans;
+    }
 
 -- ---- the task that goes first
 
@@ -84,32 +88,29 @@ module _ (q t : ℕ) (sn : ℕ → Option Sight) (x y : Partition) (m : List ℕ
     unfolding instruction
     nobody_first e s = part_looked s rs ks hs ∙ ap (instruction rv32i q t sn (part_of y m s)) e
 
-    pub none_there : (i : ℕ) → first_ready (tasks_of y) 0 (runs_of y) ≡ Some i → slice_get (held y.tasks) i ≡ None → (s : List (ℕ × ℕ)) → part_tick rv32i q t sn (tasks_of x) (part_of x m s) ≡ record { part = part_of y m s; change = none }
-    unfolding instruction does runs_of part_of
-    none_there i e n s =
-        part_looked s rs ks hs ∙ ap (instruction rv32i q t sn (part_of y m s)) e
-        ∙ ap (does rv32i q t sn (part_of y m s) i) (drop_all i (runs_of y) (omega (arith, nth-none_past _ i n, length-map (held y.tasks) run_of)))
-
-    pub first_does : (i : ℕ) (run : Running) → first_ready (tasks_of y) 0 (runs_of y) ≡ Some i → slice_get (held y.tasks) i ≡ Some run
+    pub first_does : (i : ℕ) (run : Running) → first_ready (tasks_of y) 0 (runs_of y) ≡ Some i → slice_get y.tasks.items i ≡ Some run
         → (s : List (ℕ × ℕ)) → part_tick rv32i q t sn (tasks_of x) (part_of x m s) ≡ acted q t sn (part_of y m s) i (act (run_of run).core m)
     unfolding instruction does runs_of part_of
     first_does i run e n s =
-        part_looked s rs ks hs ∙ ap (instruction rv32i q t sn (part_of y m s)) e ∙ ap (does rv32i q t sn (part_of y m s) i) (at_drop (held y.tasks) i n)
+        part_looked s rs ks hs ∙ ap (instruction rv32i q t sn (part_of y m s)) e ∙ ap (does rv32i q t sn (part_of y m s) i) (at_drop y.tasks.items i n)
       where
         at_drop : (xs : List Running) (k : ℕ) → slice_get xs k ≡ Some run → drop k (map run_of xs) ≡ run_of run ∷ drop (suc k) (map run_of xs)
         at_drop [] k g = let z : ◌≡◌ {A = ℕ} 0 1 = cc in absurd (omega arith)
         at_drop (z ∷ zs) zero g = let same : z ≡ run = cc in ap (λ w. run_of w ∷ map run_of zs) same
         at_drop (z ∷ zs) (suc k) g = at_drop zs k g
 
--- The task that goes first is ready.
-pub first_is_ready : (y : Partition) (i : ℕ) (run : Running) → first_ready (tasks_of y) 0 (runs_of y) ≡ Some i → slice_get (held y.tasks) i ≡ Some run → is_ready (run_of run).state ≡ true
-unfolding runs_of
-first_is_ready y i run e n =
-    let goes : GoesFirst (tasks_of y) (runs_of y) i =
-    subst (λ o. MatchOption o ((k : ℕ) → ReadyAt (runs_of y) k → ⊥) (λ j. GoesFirst (tasks_of y) (runs_of y) j)) e (first_ready_lem (tasks_of y) (runs_of y)) in
-    let there : slice_get (map (λ (r : Run Core). r.state) (runs_of y)) i ≡ Some (run_of run).state = nth-map_some (λ (r : Run Core). r.state) (runs_of y) i (run_of run) (nth-map_some run_of (held y.tasks) i run n) in
-    let state : (run_of run).state ≡ Ready = same_some (run_of run).state Ready (sym there ∙ goes.ready) in
-    is_ready_lem (run_of run).state state
-  where
-    same_some : (a b : State) → ◌≡◌ {A = Option State} (Some a) (Some b) → a ≡ b
-    same_some a b g = cc
+-- The task that goes first is there, and ready.
+module _ (y : Partition) (i : ℕ) (e : first_ready (tasks_of y) 0 (runs_of y) ≡ Some i) where
+  goes_first : GoesFirst (tasks_of y) (runs_of y) i
+  goes_first = subst (λ o. MatchOption o ((k : ℕ) → ReadyAt (runs_of y) k → ⊥) (λ j. GoesFirst (tasks_of y) (runs_of y) j)) e (first_ready_lem (tasks_of y) (runs_of y))
+
+  pub first_there : i < length (tasks_of y)
+  unfolding tasks_of runs_of
+  first_there = omega (arith, nth_some_below _ i Ready goes_first.ready, length-map (runs_of y) (λ (r : Run Core). r.state), length-map y.tasks.items run_of, length-map y.tasks.items task_of)
+
+  pub first_is_ready : (run : Running) → slice_get y.tasks.items i ≡ Some run → (run_of run).state ≡ Ready
+  unfolding runs_of
+  first_is_ready run n =
+      let there : slice_get (map (λ (r : Run Core). r.state) (runs_of y)) i ≡ Some (run_of run).state = nth-map_some (λ (r : Run Core). r.state) (runs_of y) i (run_of run) (nth-map_some run_of y.tasks.items i run n) in
+      let both : ◌≡◌ {A = Option State} (Some (run_of run).state) (Some Ready) = sym there ∙ goes_first.ready in
+      cc

@@ -1,5 +1,5 @@
 -- The world that the program's state stands for, when one of its partitions changes.
-use Rattle.std.proofs.Common.{◌≡◌, ℕ, zero, suc, ◌+◌, ◌%◌, ◌≤◌, Bool, true, false, cond, eqb, ltb, ◌≢◌, List, [], ◌∷◌, ◌++◌, map, length, get_or, set, Some, None, Option, sym, refl, ap, ◌∙◌, subst, add-zero, add-suc, suc-add, zero-add, add-one, arith}
+use Rattle.std.proofs.Common.{◌≡◌, ℕ, zero, suc, ◌+◌, ◌≤◌, Bool, true, false, cond, eqb, ltb, ◌≢◌, List, [], ◌∷◌, ◌++◌, map, length, get_or, set, Some, None, Option, sym, refl, ap, ◌∙◌, subst, add-zero, add-suc, suc-add, zero-add, arith}
 use Rattle.std.specs.List.{slice_get}
 use Rattle.std.proofs.lemmas.List.{map-set, set_past, get_or_past, append-nil}
 use Rattle.std.proofs.lemmas.Bool.{cond-true, cond-false, ne_eqb, eq-eqb}
@@ -7,11 +7,10 @@ use Rattle.cpu.specs.Core.{Core}
 use Rattle.cpu.specs.Rv32i.{rv32i}
 use Rattle.model.specs.declared.plan.Arrival.{Arrival}
 use Rattle.model.specs.declared.plan.Window.{Window}
-use Rattle.model.specs.World.{Part, World, Sent, no_part, part, messages, round, turn_in, turn}
-use Rattle.model.specs.Tick.{hearing, with_heard, with_tasks, most_unheard, came, work, applied, part_tick, looked, first_ready, instruction, changed, seen, tick, later}
+use Rattle.model.specs.World.{Part, World, Sent, no_part, part, messages}
+use Rattle.model.specs.Tick.{hearing, with_heard, with_tasks, most_unheard, came, work, applied, part_tick, looked, first_ready, instruction, changed, seen}
 use Rattle.reference.specs.declared.part.Partition.{Partition}
 use Rattle.reference.specs.declared.queue.Queue.{Queue}
-use Rattle.reference.specs.Rows.{held}
 use Rattle.reference.specs.Parts.{run_of, runs_of, tasks_of, heard_of, part_of}
 use Rattle.reference.specs.Own.{Did, said, plans_of, channels_of, seen_of}
 use Rattle.reference.specs.View.{plan_in, parts_of, world_of, showing}
@@ -78,11 +77,11 @@ hearing_is :
     → part_of y m s ≡ hearing b (part_of x m s)
 unfolding hearing with_heard part_of runs_of
 hearing_is x y m s b e h =
-    (λ j. record { memory = m; tasks = map run_of (held (e j)); heard = h j; shown = s }) ∙ by (ltb (length (heard_of x)) most_unheard)
+    (λ j. record { memory = m; tasks = map run_of (e j).items; heard = h j; shown = s }) ∙ by (ltb (length (heard_of x)) most_unheard)
   where
     by : (t : Bool)
-        → ◌≡◌ {A = Part Core} (record { memory = m; tasks = map run_of (held x.tasks); heard = cond t (heard_of x ++ b ∷ []) (heard_of x); shown = s })
-        (cond t (record { memory = m; tasks = map run_of (held x.tasks); heard = heard_of x ++ b ∷ []; shown = s }) (record { memory = m; tasks = map run_of (held x.tasks); heard = heard_of x; shown = s }))
+        → ◌≡◌ {A = Part Core} (record { memory = m; tasks = map run_of x.tasks.items; heard = cond t (heard_of x ++ b ∷ []) (heard_of x); shown = s })
+        (cond t (record { memory = m; tasks = map run_of x.tasks.items; heard = heard_of x ++ b ∷ []; shown = s }) (record { memory = m; tasks = map run_of x.tasks.items; heard = heard_of x; shown = s }))
     by true = refl
     by false = refl
 
@@ -122,12 +121,12 @@ shown_none s q j = ap (λ z. s j ++ z) (either (eqb j q)) ∙ append-nil (s j)
     either true = refl
     either false = refl
 
-module _ (system t : ℕ) (xs : List Partition) (ms : List (List ℕ)) (cs : List Queue) (s : ℕ → List (ℕ × ℕ)) (q : ℕ) where
+module _ (system t : ℕ) (ws : List Window) (xs : List Partition) (ms : List (List ℕ)) (cs : List Queue) (s : ℕ → List (ℕ × ℕ)) (q : ℕ) where
   abbrev memory : ℕ → List ℕ
   memory j = get_or ms j []
 
   -- There is no such partition.
-  pub worked_nowhere : length xs ≤ q → world_of t xs ms cs (showing s q (said t None)) ≡ work rv32i (plan_in system [] xs cs) (world_of t xs ms cs s) (Some q)
+  pub worked_nowhere : length xs ≤ q → world_of t xs ms cs (showing s q (said t None)) ≡ work rv32i (plan_in system ws xs cs) (world_of t xs ms cs s) (Some q)
   unfolding world_of work applied part part_tick with_tasks looked first_ready instruction changed said plan_in
   worked_nowhere h =
       let out : length (parts_of xs memory s 0) ≤ q = omega (arith, length-parts_of xs memory s 0) in
@@ -140,7 +139,7 @@ module _ (system t : ℕ) (xs : List Partition) (ms : List (List ℕ)) (cs : Lis
   pub worked_there :
       (ns : List (List ℕ)) (ds : List Queue) (x y : Partition) (r : Option ℕ) → slice_get xs q ≡ Some x
       → Did (λ z. part_tick rv32i q t (seen_of cs q) (tasks_of x) (part_of x (get_or ms q []) z)) t y (get_or ns q []) cs ds r → ((j : ℕ) → j ≢ q → get_or ns j [] ≡ get_or ms j [])
-      → world_of t (set xs q y) ns ds (showing s q (said t r)) ≡ work rv32i (plan_in system [] xs cs) (world_of t xs ms cs s) (Some q)
+      → world_of t (set xs q y) ns ds (showing s q (said t r)) ≡ work rv32i (plan_in system ws xs cs) (world_of t xs ms cs s) (Some q)
   unfolding world_of work applied part plan_in seen_of seen messages
   worked_there ns ds x y r h d e =
       (λ j.
@@ -160,7 +159,7 @@ module _ (system t : ℕ) (xs : List Partition) (ms : List (List ℕ)) (cs : Lis
   pub worked_with :
       (ns : List (List ℕ)) (ds : List Queue) (x y : Partition) (r : Option ℕ) (before behind : List ℕ) → slice_get xs q ≡ Some x → get_or ms q [] ≡ before → get_or ns q [] ≡ behind
       → Did (λ z. part_tick rv32i q t (seen_of cs q) (tasks_of x) (part_of x before z)) t y behind cs ds r → ((j : ℕ) → j ≢ q → get_or ns j [] ≡ get_or ms j [])
-      → world_of t (set xs q y) ns ds (showing s q (said t r)) ≡ work rv32i (plan_in system [] xs cs) (world_of t xs ms cs s) (Some q)
+      → world_of t (set xs q y) ns ds (showing s q (said t r)) ≡ work rv32i (plan_in system ws xs cs) (world_of t xs ms cs s) (Some q)
   worked_with ns ds x y r before behind h eb ea d e =
       worked_there ns ds x y r h
       (subst (λ z. Did (λ w. part_tick rv32i q t (seen_of cs q) (tasks_of x) (part_of x z w)) t y (get_or ns q []) cs ds r) (sym eb)
@@ -170,31 +169,6 @@ module _ (system t : ℕ) (xs : List Partition) (ms : List (List ℕ)) (cs : Lis
 -- The tasks' plan stays.
 pub plan_kept : (xs : List Partition) (q : ℕ) (x y : Partition) → slice_get xs q ≡ Some x → tasks_of y ≡ tasks_of x → map tasks_of (set xs q y) ≡ map tasks_of xs
 plan_kept xs q x y h e = map-set tasks_of xs q y ∙ ap (set (map tasks_of xs) q) e ∙ set_same (map tasks_of xs) q (tasks_of x) [] (get_or-map_some tasks_of xs q x [] h)
-
--- ---- a whole tick
-
--- The plan matters to a partition's tick by its channels and tasks alone.
-work_plan : (system : ℕ) (ws : List Window) (xs ys : List Partition) (cs : List Queue) (w : World Core) (o : Option ℕ) → map tasks_of ys ≡ map tasks_of xs
-    → work rv32i (plan_in system [] ys cs) w o ≡ work rv32i (plan_in system ws xs cs) w o
-unfolding work plan_in
-work_plan system ws xs ys cs w None e = refl
-work_plan system ws xs ys cs w (Some q) e = ap (λ kss. applied w q (part_tick rv32i q w.time (seen (plans_of cs) q w) (get_or kss q []) (part w q))) e
-
-module _ (system t : ℕ) (ws : List Window) (xs ys : List Partition) (ms : List (List ℕ)) (cs : List Queue) (row : List Arrival) (s : ℕ → List (ℕ × ℕ)) where
-  -- ys are the partitions when the bytes have come.
-  pub ticked :
-      (zs : List Partition) (ns : List (List ℕ)) (ds : List Queue) (r : ℕ → List (ℕ × ℕ)) (o : Option ℕ)
-      → record { time = t; parts = parts_of ys (λ q. get_or ms q []) s 0; channels = channels_of cs } ≡ came row (record { time = t; parts = parts_of xs (λ q. get_or ms q []) s 0; channels = channels_of cs })
-      → map tasks_of ys ≡ map tasks_of xs → o ≡ turn_in system ws (t % round ws)
-      → world_of t zs ns ds r ≡ work rv32i (plan_in system [] ys cs) (world_of t ys ms cs s) o
-      → world_of (t + 1) zs ns ds r ≡ tick rv32i (plan_in system ws xs cs) (world_of t xs ms cs s) row
-  unfolding world_of tick turn plan_in later
-  ticked zs ns ds r o a k e f =
-      ap (λ n. record { time = n; parts = parts_of zs (λ q. get_or ns q []) r 0; channels = channels_of ds }) (add-one t)
-      ∙ ap later
-      (f
-      ∙ work_plan system ws xs ys cs (world_of t ys ms cs s) o k
-      ∙ (λ j. work rv32i (plan_in system ws xs cs) (a j) (e j)))
 
 -- Nothing shown is nothing more.
 pub showing_none : (s : ℕ → List (ℕ × ℕ)) (q t : ℕ) → showing s q (said t None) ≡ s

@@ -1,5 +1,5 @@
 -- What a message and a channel of the program stand for. Assumes nothing: these are definitions.
-use Rattle.std.specs.Prelude.{ℕ, ◌+◌, ◌-◌, ◌%◌, cond, ◌&&◌, List, [], ◌∷◌, map, length, take, ◌==◌, nat_le}
+use Rattle.std.specs.Prelude.{ℕ, ◌+◌, ◌-◌, ◌%◌, cond, ◌&&◌, List, [], ◌∷◌, map, length, ◌==◌, nat_le}
 use Rattle.std.specs.List.{between}
 use Rattle.octets.specs.Bytes.{put}
 use Rattle.cpu.specs.declared.call.Answer.{Answer}
@@ -8,13 +8,12 @@ use Rattle.model.specs.World.{Sent}
 use Rattle.model.specs.Tick.{Sight, may_send, sending, no}
 use Rattle.reference.specs.declared.letter.Letter.{Letter}
 use Rattle.reference.specs.declared.queue.Queue.{Queue}
-use Rattle.reference.specs.Rows.{held}
 
 unfoldable pub sent_of : Letter → Sent
-sent_of l = record { at = l.sent; bytes = take l.size l.bytes }
+sent_of l = record { at = l.sent; bytes = l.bytes.items }
 
 unfoldable pub sents_of : Queue → List Sent
-sents_of q = map sent_of (held q.messages)
+sents_of q = map sent_of q.messages.items
 
 unfoldable pub sight_of : Queue → Sight
 sight_of q = record { plan = q.plan; messages = sents_of q }

@@ -3,12 +3,15 @@ use Rattle.std.specs.Prelude.{◌≡◌, ℕ, List, [], ◌∷◌, ◌++◌, map
 use Rattle.cpu.specs.declared.call.Answer.{Answer}
 use Rattle.cpu.specs.Core.{Core}
 use Rattle.model.specs.declared.plan.Channel.{Channel}
+use Rattle.model.specs.declared.plan.State.TheVariants.{Ready}
 use Rattle.model.specs.World.{Part, Sent}
 use Rattle.model.specs.Tick.{Step, Sight, changed, changing, goes_on, with_memory, seen}
+use Rattle.std.specs.List.{slice_get}
+use Rattle.reference.specs.declared.own.OwnTick.{OwnTick}
 use Rattle.reference.specs.declared.part.Partition.{Partition}
 use Rattle.reference.specs.declared.queue.Queue.{Queue}
 use Rattle.reference.specs.Letters.{sents_of}
-use Rattle.reference.specs.Parts.{part_of}
+use Rattle.reference.specs.Parts.{part_of, run_of}
 
 unfoldable pub plan_of : Queue → Channel
 plan_of q = q.plan
@@ -42,3 +45,18 @@ pub record Did (step : List (ℕ × ℕ) → Step Core) (t : ℕ) (x : Partition
   pub part : (s : List (ℕ × ℕ)) → part_of x m (s ++ said t r) ≡ (step s).part
   pub change : (s : List (ℕ × ℕ)) → channels_of cs' ≡ changed (step s).change (channels_of cs)
   pub plans : plans_of cs' ≡ plans_of cs
+
+-- The same is lent still, for the same task.
+pub record Lends (old new : OwnTick) : Type 0 where
+  pub part : new.part.ghost_name ≡ old.part.ghost_name
+  pub memory : new.memory.ghost_name ≡ old.memory.ghost_name
+  pub channels : new.channels.ghost_name ≡ old.channels.ghost_name
+  pub q : new.q ≡ old.q
+  pub time : new.time ≡ old.time
+  pub i : new.i ≡ old.i
+  pub run : new.run ≡ old.run
+
+-- The task that goes is the partition's, and it is ready.
+pub record Goes (t : OwnTick) : Type 0 where
+  pub found : slice_get t.part.now.tasks.items t.i ≡ Some t.run
+  pub ready : (run_of t.run).state ≡ Ready

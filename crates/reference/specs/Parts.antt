@@ -8,7 +8,6 @@ use Rattle.model.specs.World.{Run, Part}
 use Rattle.model.specs.Tick.{new_runs}
 use Rattle.reference.specs.declared.task.Running.{Running}
 use Rattle.reference.specs.declared.part.Partition.{Partition}
-use Rattle.reference.specs.Rows.{held}
 
 unfoldable pub run_of : Running → Run Core
 run_of r = record { state = r.state; core = core_of r.core; began = r.began; late = r.late }
@@ -18,13 +17,13 @@ task_of r = r.plan
 
 -- The plan of a partition's tasks, and the tasks under way.
 unfoldable pub tasks_of : Partition → List Task
-tasks_of x = map task_of (held x.tasks)
+tasks_of x = map task_of x.tasks.items
 
 unfoldable pub runs_of : Partition → List (Run Core)
-runs_of x = map run_of (held x.tasks)
+runs_of x = map run_of x.tasks.items
 
 unfoldable pub heard_of : Partition → List ℕ
-heard_of x = held x.heard
+heard_of x = x.heard.items
 
 -- The part with this memory, which has shown these bytes.
 unfoldable pub part_of : Partition → List ℕ → List (ℕ × ℕ) → Part Core

@@ -1,13 +1,10 @@
 //! A message as a channel keeps it.
-ghost use Rattle.std.specs.Prelude.{◌≡◌, ◌≤◌, length};
+use arrayvec::ArrayVec;
 
 mod methods;
 
-#[derive(Clone, Copy)]
+#[derive(Default, Drop)]
 pub(crate) struct Letter {
-    sent: u64,
-    size: usize,
-    bytes: [u8; 1024],
-    ghost short: { size ≤ 1024 },
-    ghost whole: { length bytes ≡ 1024 },
+    pub(crate) sent: u64,
+    pub(crate) bytes: ArrayVec<u8, 1024>,
 }

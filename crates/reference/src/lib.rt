@@ -7,15 +7,12 @@
 #![tactic(auto)]
 
 mod access;
-mod begin;
 mod letter;
 mod own;
 pub mod part;
 mod place;
 pub mod queue;
-mod row;
 pub mod shown;
-mod step;
 mod task;
 mod turn;
 pub mod world;

@@ -1,11 +1,15 @@
 //! A partition under way: its tasks, and the bytes from outside that it has not heard. Its memory is lent apart.
-use crate::row::Row;
 use crate::task::Running;
+use arrayvec::ArrayVec;
 
 mod methods;
 
 #[derive(Drop)]
 pub struct Partition {
-    tasks: Row<Running, 16>,
-    heard: Row<u8, 1024>,
+    tasks: ArrayVec<Running, 16>,
+    heard: ArrayVec<u8, 1024>,
 }
+
+/// Why a task is not added: there are sixteen.
+#[derive(Clone, Copy, Debug, PartialEq, Eq)]
+pub struct Full;

@@ -2,7 +2,7 @@
 ghost use Rattle.std.specs.Prelude.{◌≤◌};
 
 use crate::letter::Letter;
-use crate::row::Row;
+use arrayvec::ArrayVec;
 use model::plan::Channel;
 
 mod methods;
@@ -10,7 +10,7 @@ mod methods;
 #[derive(Drop)]
 pub struct Queue {
     plan: Channel,
-    messages: Row<Letter, 64>,
+    messages: ArrayVec<Letter, 64>,
     ghost small: { plan.bytes ≤ 1024 },
     ghost few: { plan.places ≤ 64 },
 }

@@ -1,7 +1,7 @@
 //! What comes of a tick.
 
 /// A byte, the partition that showed it, and the tick in which it did.
-#[derive(Clone, Copy)]
+#[derive(Clone, Copy, Debug, PartialEq, Eq)]
 pub struct Shown {
     pub partition: u8,
     pub tick: u64,
@@ -9,7 +9,7 @@ pub struct Shown {
 }
 
 /// Why a tick or a run is refused.
-#[derive(Clone, Copy)]
+#[derive(Clone, Copy, Debug, PartialEq, Eq)]
 pub enum Refused {
     /// A tick would come after the 2^40th.
     Over,

@@ -4,6 +4,7 @@ use crate::queue::Queue;
 use model::plan::Window;
 
 mod methods;
+mod step;
 
 /// A computer under way: its windows, the time, its partitions, their memories one after the other, and its channels, all
 /// lent.
@@ -13,6 +14,7 @@ pub struct World<'a> {
     windows: &'a [Window],
     time: u64,
     parts: &'a mut [Partition],
+    // Stays beside the partitions: a partition is made before its pages are known, and cannot fail.
     pages: &'a [u16],
     memory: &'a mut [u8],
     channels: &'a mut [Queue],

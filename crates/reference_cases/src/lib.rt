@@ -33,7 +33,7 @@ fn windows(alone: bool) -> [Window; 2] {
 fn put_words(memory: &mut [u8], words: &[u32]) {
     for (i, w) in words.iter().enumerate() {
         if i < memory.len() / 4 {
-            octets::write_u32(memory, 4 * i, *w);
+            octets::write(memory, 4 * i, *w);
         }
     }
 }
@@ -62,9 +62,8 @@ fn run(
     put_words(&mut memory, words);
     let pages = [1];
     let windows = windows(alone);
-    let world = World::start(16, &windows, &mut parts, &pages, &mut memory, &mut channels);
-    let (_, result) = world.run(rows, shown);
-    result.is_ok()
+    let mut world = World::start(16, &windows, &mut parts, &pages, &mut memory, &mut channels);
+    world.run(rows, shown).is_ok()
 }
 
 /// Whether just these bytes were shown, in these ticks.

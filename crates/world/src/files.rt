@@ -95,9 +95,7 @@ pub(crate) fn run(
             break;
         }
         outside.take(view.partitions(), time, &mut row)?;
-        let (next, result) = world.tick(row.as_slice());
-        world = next;
-        match result {
+        match world.tick(row.as_slice()) {
             Ok(Some(b)) => shown.push(b)?,
             Ok(None) => {}
             Err(_) => return Err(Ended::Refused(Refusal::Row(time as usize))),

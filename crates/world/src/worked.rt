@@ -181,11 +181,10 @@ pub fn run(heap: Global, case: &Case) -> anyhow::Result<Vec<Shown>> {
     let mut memory = [0u8; 8192];
     fill(&mut memory, case);
     let pages = [1, 1];
-    let world = World::start(16, &WINDOWS, &mut parts, &pages, &mut memory, &mut channels);
+    let mut world = World::start(16, &WINDOWS, &mut parts, &pages, &mut memory, &mut channels);
     let none: [&[Arrival]; TICKS] = [&[]; TICKS];
     let mut shown: [Option<Shown>; TICKS] = [None; TICKS];
-    let (_, result) = world.run(&none, &mut shown);
-    if result.is_err() {
+    if world.run(&none, &mut shown).is_err() {
         return Err(anyhow!("the time is over"));
     }
     Ok(shown.iter().copied().flatten().collect(heap)?)

@@ -1,21 +1,20 @@
 //! What becomes of a partition.
-ghost use Rattle.std.specs.Prelude.{◌≡◌, true, [], ◌∷◌, ◌++◌, length, drop, if◌then◌else◌, Some, nat_lt, slice_index_or};
+#![tactic(auto, unfolding(crate::specs::Parts::tasks_of, crate::specs::Parts::runs_of, crate::specs::Parts::heard_of, model::specs::Tick::first_heard, model::specs::Tick::better))]
+
+ghost use Rattle.std.specs.Prelude.{◌≡◌, ◌<◌, ◌↔◌, [], ◌∷◌, ◌++◌, length, drop, if◌then◌else◌, Some, nat_lt, slice_index_or, slice_set, IsOk, OnOk, OnErr};
 ghost use Rattle.std.specs.List.{slice_get};
 ghost use Rattle.cpu.specs.Core.{fresh};
-ghost use Rattle.cpu.specs.Held.{core_of};
 ghost use Rattle.cpu.specs.Rv32i.{rv32i};
 ghost use Rattle.cpu.specs.declared.call.Answer.TheVariants.{Value};
 ghost use Rattle.model.specs.declared.plan.State.TheVariants.{Ready};
 ghost use Rattle.model.specs.World.{no_task};
-ghost use Rattle.model.specs.Tick.{looked, first_ready, first_heard, better, is_ready, most_unheard, update, goes_on, waits, stops, new_runs};
-ghost use Rattle.reference.specs.Rows.{held};
-ghost use Rattle.reference.specs.Parts.{tasks_of, runs_of, heard_of, run_of};
+ghost use Rattle.model.specs.Tick.{looked, first_ready, first_heard, better, most_unheard, new_runs};
+ghost use Rattle.reference.specs.Parts.{tasks_of, runs_of, heard_of, run_of, task_of};
 
-use super::Partition;
-use crate::row::Row;
+use super::{Full, Partition};
 use crate::task::Running;
+use arrayvec::ArrayVec;
 use cpu::call::Answer;
-use cpu::registers::Registers;
 use model::plan::Task;
 
 impl Partition {
@@ -25,27 +24,24 @@ impl Partition {
         ensures runs { runs_of result ≡ [] }
         ensures heard { heard_of result ≡ [] }
     {
-        let none = Task {
-            priority: 0,
-            period: 1,
-            deadline: 1,
-            lates: 0,
-        };
         Partition {
-            tasks: Row::new(Running::new(none, 0)),
-            heard: Row::new(0),
+            tasks: ArrayVec::new(),
+            heard: ArrayVec::new(),
         }
     }
 
-    /// One task more, new; false, and nothing changed, where there are sixteen.
-    pub fn add(&mut self, plan: Task) -> bool
-        ensures value { result ≡ nat_lt (length (tasks_of self.old)) 16 }
-        ensures tasks { tasks_of self.new ≡ (if result then tasks_of self.old ++ plan ∷ [] else tasks_of self.old) }
-        ensures runs { runs_of self.new ≡ (if result then (runs_of self.old ++ record { state = Ready; core = fresh (length (tasks_of self.old)); began = 0; late = 0 } ∷ []) else runs_of self.old) }
+    /// One task more, new; refused, and nothing changed, where there are sixteen.
+    pub fn add(&mut self, plan: Task) -> Result<(), Full>
+        ensures value { IsOk result ↔ (length (tasks_of self.old) < 16) }
+        ensures tasks { OnOk result (tasks_of self.new ≡ tasks_of self.old ++ plan ∷ []) }
+        ensures runs { OnOk result (runs_of self.new ≡ runs_of self.old ++ record { state = Ready; core = fresh (length (tasks_of self.old)); began = 0; late = 0 } ∷ []) }
         ensures heard { heard_of self.new ≡ heard_of self.old }
+        ensures full { OnErr result (self.new ≡ self.old) }
     {
         let number = self.tasks.len() as u8;
-        self.tasks.push(Running::new(plan, number))
+        self.tasks
+            .try_push(Running::new(plan, number))
+            .map_err(|_| Full)
     }
 
     /// All tasks are as at the start, and nothing is unheard.
@@ -55,11 +51,8 @@ impl Partition {
         ensures heard { heard_of self.new ≡ [] }
     {
         self.heard.clear();
-        'tasks: for i in 0..16u8 {
-            let Some(run) = self.tasks.get(i as usize) else {
-                break 'tasks;
-            };
-            self.tasks.put(i as usize, run.renewed(i));
+        for (i, run) in self.tasks.iter_mut().enumerate() {
+            *run = run.renewed(i as u8);
         }
     }
 
@@ -68,7 +61,7 @@ impl Partition {
         ensures same { self.new.tasks ≡ self.old.tasks }
         ensures heard { heard_of self.new ≡ (if nat_lt (length (heard_of self.old)) most_unheard then heard_of self.old ++ byte ∷ [] else heard_of self.old) }
     {
-        let _ = self.heard.push(byte);
+        let _ = self.heard.try_push(byte);
     }
 
     /// Takes the unheard byte that came first.
@@ -77,11 +70,10 @@ impl Partition {
         ensures same { self.new.tasks ≡ self.old.tasks }
         ensures heard { heard_of self.new ≡ drop 1 (heard_of self.old) }
     {
-        let Some(byte) = self.heard.get(0) else {
-            return Answer::Value(4294967295);
-        };
-        self.heard.shift();
-        Answer::Value(u32::from(byte))
+        match self.heard.pop_at(0) {
+            Some(byte) => Answer::Value(u32::from(byte)),
+            None => Answer::NO,
+        }
     }
 
     /// Looks at all tasks: each that waits may begin anew, and each that is ready may be late.
@@ -90,11 +82,9 @@ impl Partition {
         ensures runs { runs_of self.new ≡ looked rv32i (tasks_of self.old) 0 time (runs_of self.old) }
         ensures heard { heard_of self.new ≡ heard_of self.old }
     {
-        'tasks: for i in 0..16u8 {
-            let Some(run) = self.tasks.get(i as usize) else {
-                break 'tasks;
-            };
-            self.tasks.put(i as usize, run.woken(i, time).checked(time));
+        for (i, run) in self.tasks.iter_mut().enumerate() {
+            run.wake(i as u8, time);
+            run.check(time);
         }
     }
 
@@ -102,10 +92,7 @@ impl Partition {
     fn priority(&self, i: usize) -> u8
         ensures value { result ≡ (slice_index_or (tasks_of self.now) i no_task).priority }
     {
-        let Some(run) = self.tasks.get(i) else {
-            return 0;
-        };
-        run.priority()
+        self.tasks.get(i).map_or(0, |run| run.priority())
     }
 
     /// The one that goes first of task i and the best of those behind it.
@@ -130,49 +117,29 @@ impl Partition {
         ensures value { result ≡ first_ready (tasks_of self.now) 0 (runs_of self.now) }
     {
         let mut best = None;
+        // Stays a range: of `rfold` and `max_by_key` over numbered items, which of equals they give isn't proved.
         for i in (0..self.tasks.len()).rev() {
-            if let Some(run) = self.tasks.get(i) {
-                best = self.better(i, run.is_ready(), best);
-            }
+            best = self.better(i, self.tasks[i].is_ready(), best);
         }
         best
     }
 
-    /// A task.
-    pub(crate) fn task(&self, i: usize) -> Option<Running>
-        ensures value { result ≡ slice_get (held self.now.tasks) i }
+    /// Task i.
+    pub(crate) fn task(&self, i: usize) -> Running
+        requires { i < length (tasks_of self.now) }
+        ensures value { slice_get self.now.tasks.items i ≡ Some result }
     {
-        self.tasks.get(i)
+        self.tasks[i]
     }
 
-    /// The task goes on with this core.
-    pub(crate) fn goes_on(&mut self, i: usize, run: Running, core: Registers)
-        requires found { slice_get (held self.old.tasks) i ≡ Some run }
-        requires ready { is_ready (run_of run).state ≡ true }
-        ensures tasks { tasks_of self.new ≡ tasks_of self.old }
-        ensures runs { runs_of self.new ≡ update (runs_of self.old) i (goes_on (core_of core)) }
+    /// Task i, if there is one, is so now.
+    pub(crate) fn put(&mut self, i: usize, run: Running)
+        ensures tasks { tasks_of self.new ≡ slice_set (tasks_of self.old) i (task_of run) }
+        ensures runs { runs_of self.new ≡ slice_set (runs_of self.old) i (run_of run) }
         ensures heard { heard_of self.new ≡ heard_of self.old }
     {
-        self.tasks.put(i, run.goes_on(core));
-    }
-
-    /// The task waits for its next period.
-    pub(crate) fn waits(&mut self, i: usize, run: Running, core: Registers)
-        requires found { slice_get (held self.old.tasks) i ≡ Some run }
-        ensures tasks { tasks_of self.new ≡ tasks_of self.old }
-        ensures runs { runs_of self.new ≡ update (runs_of self.old) i (waits (core_of core)) }
-        ensures heard { heard_of self.new ≡ heard_of self.old }
-    {
-        self.tasks.put(i, run.waits(core));
-    }
-
-    /// The task does nothing more.
-    pub(crate) fn stops(&mut self, i: usize, run: Running)
-        requires found { slice_get (held self.old.tasks) i ≡ Some run }
-        ensures tasks { tasks_of self.new ≡ tasks_of self.old }
-        ensures runs { runs_of self.new ≡ update (runs_of self.old) i stops }
-        ensures heard { heard_of self.new ≡ heard_of self.old }
-    {
-        self.tasks.put(i, run.stops());
+        if let Some(place) = self.tasks.get_mut(i) {
+            *place = run;
+        }
     }
 }

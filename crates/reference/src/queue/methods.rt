@@ -1,15 +1,14 @@
 //! What is done with a channel.
+#![tactic(auto, unfolding(crate::specs::Letters::sents_of, crate::specs::Letters::sent_of, crate::specs::Letters::sight_of, crate::specs::Letters::posting, crate::specs::Letters::collecting, crate::specs::Letters::collecting_first, crate::specs::Letters::refusing, model::specs::Tick::may_send, model::specs::Tick::sending))]
+
 ghost use Rattle.std.specs.Prelude.{◌≡◌, ◌≤◌, [], MatchOption};
 ghost use Rattle.reference.specs.Letters.{sents_of, sight_of, posting, collecting};
 
 use super::Queue;
 use crate::letter::Letter;
-use crate::row::Row;
+use arrayvec::ArrayVec;
 use cpu::call::Answer;
 use model::plan::Channel;
-
-/// The answer of a call that is refused.
-const NO: Answer = Answer::Value(4294967295);
 
 impl Queue {
     /// An empty channel, if its plan is in bounds: messages of up to 1,024 bytes, and up to 64 places.
@@ -21,7 +20,7 @@ impl Queue {
         }
         Some(Queue {
             plan,
-            messages: Row::new(Letter::new(0, &[])),
+            messages: ArrayVec::new(),
         })
     }
 
@@ -48,18 +47,18 @@ impl Queue {
         let start = address as usize;
         let end = start + length as usize;
         if self.plan.from != from || length > u32::from(self.plan.bytes) || end > memory.len() {
-            return NO;
+            return Answer::NO;
         }
         let letter = Letter::new(time, &memory[start..end]);
         if self.plan.places == 0 {
             self.messages.clear();
-            let _ = self.messages.push(letter);
+            self.messages.push(letter);
             return Answer::Value(0);
         }
         if self.messages.len() >= self.plan.places as usize {
-            return NO;
+            return Answer::NO;
         }
-        let _ = self.messages.push(letter);
+        self.messages.push(letter);
         Answer::Value(0)
     }
 
@@ -69,26 +68,25 @@ impl Queue {
         ensures same { self.new.plan ≡ self.old.plan }
     {
         if self.plan.to != to {
-            return NO;
+            return Answer::NO;
         }
-        let Some(letter) = self.messages.get(0) else {
-            return NO;
+        let Some(letter) = self.messages.first() else {
+            return Answer::NO;
         };
+        let bytes = letter.bytes.as_slice();
         let start = address as usize;
-        let size = letter.len();
+        let size = bytes.len();
         if start + size > memory.len() {
-            return NO;
+            return Answer::NO;
         }
-        letter.copy_to(memory, start);
-        let age = (time.saturating_sub(letter.sent()) % 4294967295) as u32;
-        let answer = Answer::Message {
+        octets::copy(memory, start, bytes);
+        let age = (time.saturating_sub(letter.sent) % 4294967295) as u32;
+        if self.plan.places > 0 {
+            self.messages.remove(0);
+        }
+        Answer::Message {
             age,
             length: size as u32,
-        };
-        if self.plan.places == 0 {
-            return answer;
         }
-        self.messages.shift();
-        answer
     }
 }

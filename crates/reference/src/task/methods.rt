@@ -1,13 +1,16 @@
 //! What becomes of a task.
-ghost use Rattle.std.specs.Prelude.{◌≡◌, true, false};
+#![tactic(auto, unfolding(crate::specs::Parts::run_of, crate::specs::Parts::task_of, model::specs::Tick::is_ready, model::specs::Tick::is_waiting, model::specs::Tick::woken, model::specs::Tick::checked))]
+
+ghost use Rattle.std.specs.Prelude.{◌≡◌};
 ghost use Rattle.cpu.specs.Core.{fresh};
-ghost use Rattle.cpu.specs.Rv32i.{rv32i};
+ghost use Rattle.cpu.specs.Rv32i.{rv32i, answered};
 ghost use Rattle.cpu.specs.Held.{core_of};
-ghost use Rattle.model.specs.declared.plan.State.TheVariants.{Ready};
-ghost use Rattle.model.specs.Tick.{woken, checked, goes_on, waits, stops, is_ready};
+ghost use Rattle.model.specs.declared.plan.State.TheVariants.{Ready, Waiting, Stopped};
+ghost use Rattle.model.specs.Tick.{woken, checked, is_ready};
 ghost use Rattle.reference.specs.Parts.{run_of, task_of};
 
 use super::Running;
+use cpu::call::Answer;
 use cpu::registers::Registers;
 use model::plan::{State, Task};
 
@@ -27,9 +30,9 @@ impl Running {
     }
 
     /// The task as it is at the start.
-    pub(crate) fn renewed(&self, number: u8) -> Running
+    pub(crate) fn renewed(self, number: u8) -> Running
         ensures value { run_of result ≡ record { state = Ready; core = fresh number; began = 0; late = 0 } }
-        ensures plan { task_of result ≡ task_of self.now }
+        ensures plan { task_of result ≡ task_of self }
     {
         Running::new(self.plan, number)
     }
@@ -38,11 +41,7 @@ impl Running {
     pub(crate) fn is_ready(&self) -> bool
         ensures value { result ≡ is_ready (run_of self.now).state }
     {
-        match self.state {
-            State::Ready => true,
-            State::Waiting => false,
-            State::Stopped => false,
-        }
+        self.state == State::Ready
     }
 
     /// Its core.
@@ -60,98 +59,89 @@ impl Running {
     }
 
     /// A waiting task begins anew when its period is over.
-    pub(crate) fn woken(self, number: u8, time: u64) -> Running
-        ensures value { run_of result ≡ woken rv32i (task_of self) number time (run_of self) }
-        ensures plan { task_of result ≡ task_of self }
+    pub(crate) fn wake(&mut self, number: u8, time: u64)
+        ensures value { run_of self.new ≡ woken rv32i (task_of self.old) number time (run_of self.old) }
+        ensures plan { task_of self.new ≡ task_of self.old }
     {
         let State::Waiting = self.state else {
-            return self;
+            return;
         };
         let period = u64::from(self.plan.period);
         if time < self.began || time - self.began < period {
-            return self;
+            return;
         }
-        let began = self.began + period;
-        Running {
-            plan: self.plan,
-            state: State::Ready,
-            core: Registers::new(number),
-            began,
-            late: self.late,
-        }
+        self.state = State::Ready;
+        self.core = Registers::new(number);
+        self.began += period;
     }
 
     /// A ready task whose deadline has come is late.
-    pub(crate) fn checked(self, time: u64) -> Running
-        ensures value { run_of result ≡ checked (task_of self) time (run_of self) }
-        ensures plan { task_of result ≡ task_of self }
+    pub(crate) fn check(&mut self, time: u64)
+        ensures value { run_of self.new ≡ checked (task_of self.old) time (run_of self.old) }
+        ensures plan { task_of self.new ≡ task_of self.old }
     {
         let State::Ready = self.state else {
-            return self;
+            return;
         };
         let deadline = u64::from(self.plan.deadline);
         if time < self.began || time - self.began < deadline {
-            return self;
+            return;
         }
-        let late = self.late + 1;
-        if u16::from(self.plan.lates) <= self.late {
-            return Running {
-                plan: self.plan,
-                state: State::Stopped,
-                core: self.core,
-                began: self.began,
-                late,
-            };
-        }
-        Running {
-            plan: self.plan,
-            state: State::Waiting,
-            core: self.core,
-            began: self.began,
-            late,
-        }
+        self.state = if u16::from(self.plan.lates) <= self.late {
+            State::Stopped
+        } else {
+            State::Waiting
+        };
+        self.late += 1;
     }
 
-    /// It goes on with this core.
-    pub(crate) fn goes_on(self, core: Registers) -> Running
-        requires { is_ready (run_of self).state ≡ true }
-        ensures value { run_of result ≡ goes_on (core_of core) (run_of self) }
+    /// The task with this core.
+    pub(crate) fn with_core(mut self, core: Registers) -> Running
+        ensures value { run_of result ≡ record (run_of self) { core = core_of core } }
         ensures plan { task_of result ≡ task_of self }
     {
-        Running {
-            plan: self.plan,
-            state: State::Ready,
-            core,
-            began: self.began,
-            late: self.late,
-        }
+        self.core = core;
+        self
+    }
+
+    /// The task with what comes back of its call.
+    pub(crate) fn answered(mut self, answer: Answer) -> Running
+        ensures value { run_of result ≡ record (run_of self) { core = answered (run_of self).core answer } }
+        ensures plan { task_of result ≡ task_of self }
+    {
+        self.core.answer(answer);
+        self
     }
 
     /// It waits for its next period, and has not been late any more.
-    pub(crate) fn waits(self, core: Registers) -> Running
-        ensures value { run_of result ≡ waits (core_of core) (run_of self) }
+    pub(crate) fn waits(mut self) -> Running
+        ensures value { run_of result ≡ record (run_of self) { state = Waiting; late = 0 } }
         ensures plan { task_of result ≡ task_of self }
     {
-        Running {
-            plan: self.plan,
-            state: State::Waiting,
-            core,
-            began: self.began,
-            late: 0,
-        }
+        self.state = State::Waiting;
+        self.late = 0;
+        self
     }
 
     /// It does nothing more.
-    pub(crate) fn stops(self) -> Running
-        ensures value { run_of result ≡ stops (run_of self) }
+    pub(crate) fn stops(mut self) -> Running
+        ensures value { run_of result ≡ record (run_of self) { state = Stopped } }
         ensures plan { task_of result ≡ task_of self }
     {
-        Running {
-            plan: self.plan,
-            state: State::Stopped,
-            core: self.core,
-            began: self.began,
-            late: self.late,
-        }
+        self.state = State::Stopped;
+        self
+    }
+}
+
+/// What stands in a place that holds no task.
+impl Default for Running {
+    fn default() -> Running {
+        let none = Task {
+            priority: 0,
+            period: 1,
+            deadline: 1,
+            lates: 0,
+        };
+        Running::new(none, 0)
     }
 }

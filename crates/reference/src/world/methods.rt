@@ -7,11 +7,9 @@ ghost use Rattle.reference.specs.View.{plan_in, after, after_all};
 ghost use Rattle.reference.specs.Whole.{plan_of, view_of, Reason};
 
 use super::World;
-use crate::begin::{clear_all, renew_all};
 use crate::part::Partition;
 use crate::queue::Queue;
 use crate::shown::{Refused, Shown};
-use crate::step::advance;
 use model::plan::{Arrival, Window};
 
 /// The first tick that there is not.
@@ -31,8 +29,12 @@ impl<'a> World<'a> {
         ensures plan { plan_of result ≡ plan_in system windows.now parts.old channels.old }
         ensures value { view_of result (λ _. []) ≡ begin rv32i (plan_of result) (memories_in pages.now memory.old) }
     {
-        renew_all(parts);
-        clear_all(channels);
+        for part in parts.iter_mut() {
+            part.renew();
+        }
+        for channel in channels.iter_mut() {
+            channel.clear();
+        }
         World {
             system,
             windows,
@@ -44,117 +46,34 @@ impl<'a> World<'a> {
         }
     }
 
-    /// One tick, with the bytes that come in it. What comes back is the computer, and what was shown, if anything was;
-    /// after the last tick there is nothing changed but the answer.
-    pub fn tick(self, row: &[Arrival]) -> (World<'a>, Result<Option<Shown>, Refused>)
-        ensures plan { plan_of result.0 ≡ plan_of self.entry }
-        ensures value { MatchResult result.1 (λ b. (s : ℕ → List (ℕ × ℕ)) → view_of result.0 (after s b) ≡ tick rv32i (plan_of self.entry) (view_of self.entry s) row.now) (λ _. (2 ^ 40 ≤ self.entry.time) × ((s : ℕ → List (ℕ × ℕ)) → view_of result.0 s ≡ view_of self.entry s)) }
+    /// One tick, with the bytes that come in it. What comes back is what was shown, if anything was; after the last tick
+    /// it is refused, and nothing is changed.
+    pub fn tick(&mut self, row: &[Arrival]) -> Result<Option<Shown>, Refused>
+        ensures plan { plan_of self.new ≡ plan_of self.old }
+        ensures value { MatchResult result (λ b. (s : ℕ → List (ℕ × ℕ)) → view_of self.new (after s b) ≡ tick rv32i (plan_of self.old) (view_of self.old s) row.now) (λ _. (2 ^ 40 ≤ self.old.time) × ((s : ℕ → List (ℕ × ℕ)) → view_of self.new s ≡ view_of self.old s)) }
     {
-        let World {
-            system,
-            windows,
-            time,
-            parts,
-            pages,
-            memory,
-            channels,
-        } = self;
-        if time >= END {
-            return (
-                World {
-                    system,
-                    windows,
-                    time,
-                    parts,
-                    pages,
-                    memory,
-                    channels,
-                },
-                Err(Refused::Over),
-            );
+        if self.time >= END {
+            return Err(Refused::Over);
         }
-        let shown = advance(system, windows, time, parts, pages, memory, channels, row);
-        (
-            World {
-                system,
-                windows,
-                time: time + 1,
-                parts,
-                pages,
-                memory,
-                channels,
-            },
-            Ok(shown),
-        )
+        Ok(self.advance(row))
     }
 
     /// Many ticks, each with the bytes that come in it. What tick k shows goes to place k. It is refused, with nothing
     /// changed, where there are fewer places than ticks, or where a tick would come after the 2^40th.
-    pub fn run(
-        self,
-        rows: &[&[Arrival]],
-        shown: &mut [Option<Shown>],
-    ) -> (World<'a>, Result<(), Refused>)
-        ensures plan { plan_of result.0 ≡ plan_of self.entry }
-        ensures value { MatchResult result.1 (λ _. ((s : ℕ → List (ℕ × ℕ)) → view_of result.0 (after_all s (take (length rows.now) shown.new)) ≡ ticks rv32i (plan_of self.entry) (view_of self.entry s) (map (λ row. row.now) rows.now)) × (drop (length rows.now) shown.new ≡ drop (length rows.now) shown.old)) (λ _. ((s : ℕ → List (ℕ × ℕ)) → view_of result.0 s ≡ view_of self.entry s) × (shown.new ≡ shown.old)) }
-        ensures refused { IfErr result.1 (λ e. Reason e (length rows.now) (length shown.old) self.entry.time) }
+    pub fn run(&mut self, rows: &[&[Arrival]], shown: &mut [Option<Shown>]) -> Result<(), Refused>
+        ensures plan { plan_of self.new ≡ plan_of self.old }
+        ensures value { MatchResult result (λ _. ((s : ℕ → List (ℕ × ℕ)) → view_of self.new (after_all s (take (length rows.now) shown.new)) ≡ ticks rv32i (plan_of self.old) (view_of self.old s) (map (λ row. row.now) rows.now)) × (drop (length rows.now) shown.new ≡ drop (length rows.now) shown.old)) (λ _. ((s : ℕ → List (ℕ × ℕ)) → view_of self.new s ≡ view_of self.old s) × (shown.new ≡ shown.old)) }
+        ensures refused { IfErr result (λ e. Reason e (length rows.now) (length shown.old) self.old.time) }
     {
-        let World {
-            system,
-            windows,
-            time,
-            parts,
-            pages,
-            memory,
-            channels,
-        } = self;
-        let many = rows.len();
-        if shown.len() < many {
-            return (
-                World {
-                    system,
-                    windows,
-                    time,
-                    parts,
-                    pages,
-                    memory,
-                    channels,
-                },
-                Err(Refused::Places),
-            );
+        if shown.len() < rows.len() {
+            return Err(Refused::Places);
         }
-        if time > END || many as u64 > END - time {
-            return (
-                World {
-                    system,
-                    windows,
-                    time,
-                    parts,
-                    pages,
-                    memory,
-                    channels,
-                },
-                Err(Refused::Over),
-            );
+        if self.time > END || rows.len() as u64 > END - self.time {
+            return Err(Refused::Over);
         }
-        let mut clock = time;
-        for k in 0..many {
-            shown[k] = advance(
-                system, windows, clock, parts, pages, memory, channels, rows[k],
-            );
-            clock += 1;
+        for (k, row) in rows.iter().enumerate() {
+            shown[k] = self.advance(row);
         }
-        (
-            World {
-                system,
-                windows,
-                time: clock,
-                parts,
-                pages,
-                memory,
-                channels,
-            },
-            Ok(()),
-        )
+        Ok(())
     }
 }

@@ -1,14 +1,21 @@
-use Rattle.std.proofs.Common.{min, ap, ◌∙◌, arith}
+use Rattle.std.proofs.Common.{◌≡◌, ◌<◌, min, length, take, ap, ◌∙◌, arith, length-take}
+use Rattle.std.proofs.lemmas.List.{get_or-take}
 use Rattle.reference.proofs.Places.{place_none, place_more, place_min}
 use Rattle.reference.proofs.place.beginning.Goals as goal
 
-pub loop-i-init : goal.loop-i-init
-loop-i-init c = omega (arith, place_none c.args.pages.now)
+pub loop-n-init : goal.loop-n-init
+loop-n-init c = omega (arith, place_none c.args.pages.now)
 
-pub loop-i-preserved : goal.loop-i-preserved
-loop-i-preserved c =
-    omega (arith, place_more c.args.pages.now c.loop-i.i (omega (arith, c.min-many.ensures)), c.loop-i.invariant, c.saturating_add-sum.ensures)
+pub loop-n-preserved : goal.loop-n-preserved
+loop-n-preserved c =
+    let i = c.loop-n.n-index in
+    let ps = c.args.pages.now in
+    let many : length (take c.min.result ps) ≡ min c.min.result (length ps) = length-take c.min.result ps in
+    let here : i < c.min.result = omega (arith, c.loop-n-test.true) in
+    omega (arith, place_more ps i (omega (arith, c.loop-n-test.true)), c.loop-n.invariant, get_or-take c.min.result ps i 0 here, c.bytes_of.ensures, c.saturating_add-sum.ensures)
 
 pub returns : goal.returns
 returns c =
-    record { value = c.loop-i.invariant ∙ ap (λ n. min n 18446744073709551615) (place_min c.args.pages.now c.args.q c.loop-i.i (omega (arith, c.min-many.ensures, c.loop-i.auto.i-end))) }
+    let ps = c.args.pages.now in
+    let end : c.loop-n.n-index ≡ min c.args.q (length ps) = omega (arith, c.min.ensures, length-take c.min.result ps, c.loop-n.auto.n-index-end, c.loop-n-test.false) in
+    record { value = c.loop-n.invariant ∙ ap (λ n. min n 18446744073709551615) (place_min ps c.args.q c.loop-n.n-index end) }

@@ -1,70 +1,42 @@
-use Rattle.std.proofs.Common.{◌≡◌, ◌<◌, map, length, get_or, set, Some, sym, ap, ◌∙◌, arith}
-use Rattle.reference.specs.Rows.{held}
-use Rattle.reference.specs.Parts.{tasks_of, runs_of, heard_of, run_of, task_of}
-use Rattle.std.specs.List.{slice_get}
-use Rattle.std.proofs.lemmas.List.{map-set}
+use Rattle.std.proofs.Common.{◌≡◌, ◌<◌, length, get_or, map, ap, sym, ◌∙◌, subst, zero-add, arith}
+use Rattle.std.proofs.lemmas.List.{length-map}
 use Rattle.cpu.specs.Rv32i.{rv32i}
 use Rattle.model.specs.World.{no_task}
 use Rattle.model.specs.Tick.{looked, checked, woken}
-use Rattle.reference.proofs.Nths.{nth_some_below, nth-none_past, get_or-map_some, set_same, renewed_more, renewed_all, get_or_renewed}
-use Rattle.reference.proofs.Rows.{few}
-use Rattle.reference.proofs.Looking.{length-looked, looked_at, same_many}
+use Rattle.reference.specs.Parts.{tasks_of, runs_of, run_of, task_of}
+use Rattle.reference.proofs.Looking.{Done, length-looked, get_or-looked, plan_was, run_was, done_more, done_all}
 use Rattle.reference.proofs.part.Partition.look.Goals as goal
 
-pub tasks-preserved : goal.tasks-preserved
-unfolding tasks_of runs_of heard_of
-tasks-preserved c =
-    let xs = held c.tasks.self.tasks in
-    let i = c.tasks.i in
-    let run = c.in-Some.run' in
-    let ks = tasks_of c.args.self.now in
-    let rs = runs_of c.args.self.now in
-    let ls = looked rv32i ks 0 c.args.time rs in
-    let found : slice_get xs i ≡ Some run = sym c.get.ensures.value ∙ c.in-Some.is in
-    let many : length ls ≡ length rs = length-looked rv32i ks c.args.time rs 0 in
-    let here : i < length rs = omega (arith, nth_some_below xs i run found, same_many c.tasks.self c.args.self.now c.tasks.invariant.0) in
-    let plan : task_of c.checked.result ≡ task_of run = c.checked.ensures.plan ∙ c.woken.ensures.plan in
-    let new : run_of c.checked.result ≡ checked (task_of run) c.args.time (woken rv32i (task_of run) i c.args.time (run_of run)) =
-    c.checked.ensures.value
-    ∙ ap (λ k. checked k c.args.time (run_of c.woken.result)) c.woken.ensures.plan
-    ∙ ap (λ r. checked (task_of run) c.args.time r) c.woken.ensures.value in
-    let task : get_or ks i no_task ≡ task_of run = ap (λ zs. get_or zs i no_task) (sym c.tasks.invariant.0) ∙ get_or-map_some task_of xs i run no_task found in
-    let was : get_or rs i (run_of run) ≡ run_of run =
-    sym (get_or_renewed ls rs i (run_of run) many here) ∙ ap (λ zs. get_or zs i (run_of run)) (sym c.tasks.invariant.1) ∙ get_or-map_some run_of xs i run (run_of run) found in (
-      ap (map task_of) c.put.ensures.after
-          ∙ map-set task_of xs i c.checked.result
-          ∙ ap (set (map task_of xs) i) plan
-          ∙ set_same (map task_of xs) i (task_of run) no_task (get_or-map_some task_of xs i run no_task found)
-          ∙ c.tasks.invariant.0,
-      ap (map run_of) c.put.ensures.after
-          ∙ map-set run_of xs i c.checked.result
-          ∙ ap (λ zs. set zs i (run_of c.checked.result)) c.tasks.invariant.1
-          ∙ renewed_more ls rs i (run_of c.checked.result) (run_of run) many here (looked_at rv32i ks c.args.time rs i (task_of run) (run_of run) _ (run_of run) here task was new),
-      c.tasks.invariant.2,
-    )
+pub loop-i-preserved : goal.loop-i-preserved
+loop-i-preserved c =
+    let xs = c.deref_mut-run-items.result.now in
+    let ys = c.loop-i.run-items in
+    let i = c.loop-i.i in
+    let t = c.args.time in
+    let r = c.run-item.result in
+    let ks = map task_of xs in
+    let rs = map run_of xs in
+    let ls = looked rv32i ks 0 t rs in
+    let many : length ls ≡ length xs = length-looked rv32i ks t rs 0 ∙ length-map xs run_of in
+    let here : i < length ys = omega arith in
+    let there : i < length rs = omega (arith, length-map xs run_of) in
+    let plan = plan_was ls xs ys i many c.loop-i.invariant r c.run-item.is here in
+    let run = run_was ls xs ys i many c.loop-i.invariant r c.run-item.is here in
+    let same = sym c.run-item.is in
+    done_more ls xs ys i many c.loop-i.invariant r c.check.new.self c.run-item.is here (c.check.ensures.plan ∙ c.wake.ensures.plan ∙ ap task_of same)
+    (get_or-looked rv32i ks t rs 0 i (run_of r) there
+    ∙ ap (λ n. checked (get_or ks n no_task) t (woken rv32i (get_or ks n no_task) n t (get_or rs i (run_of r)))) (zero-add i)
+    ∙ (λ j. checked (plan j) t (woken rv32i (plan j) i t (run j)))
+    ∙ sym
+    (c.check.ensures.value
+    ∙ (λ j. checked (c.wake.ensures.plan j) t (c.wake.ensures.value j))
+    ∙ (λ j. checked (task_of (same j)) t (woken rv32i (task_of (same j)) i t (run_of (same j))))))
 
-pub returns-after-tasks : goal.returns-after-tasks
-returns-after-tasks c =
-    let ks = tasks_of c.args.self.now in
-    let rs = runs_of c.args.self.now in
-    record {
-      tasks = c.tasks.invariant.0;
-      runs =
-          c.tasks.invariant.1
-          ∙ renewed_all (looked rv32i ks 0 c.args.time rs) rs c.tasks.i (length-looked rv32i ks c.args.time rs 0)
-          (omega (arith, same_many c.tasks.self c.args.self.now c.tasks.invariant.0, few c.tasks.self.tasks));
-      heard = c.tasks.invariant.2;
-    }
-
-pub returns-in_default : goal.returns-in_default
-returns-in_default c =
-    let ks = tasks_of c.args.self.now in
-    let rs = runs_of c.args.self.now in
-    record {
-      tasks = c.tasks.invariant.0;
-      runs =
-          c.tasks.invariant.1
-          ∙ renewed_all (looked rv32i ks 0 c.args.time rs) rs c.tasks.i (length-looked rv32i ks c.args.time rs 0)
-          (omega (arith, same_many c.tasks.self c.args.self.now c.tasks.invariant.0, nth-none_past _ c.tasks.i (sym c.get.ensures.value ∙ c.in_default.is)));
-      heard = c.tasks.invariant.2;
-    }
+pub returns-clause-runs : goal.returns-clause-runs
+unfolding tasks_of runs_of
+returns-clause-runs c =
+    let xs = c.args.self.now.tasks.items in
+    done_all (looked rv32i (map task_of xs) 0 c.args.time (map run_of xs)) xs c.loop-i.run-items c.loop-i.i
+    (length-looked rv32i (map task_of xs) c.args.time (map run_of xs) 0 ∙ length-map xs run_of)
+    (subst (λ zs. Done (looked rv32i (map task_of zs) 0 c.args.time (map run_of zs)) zs c.loop-i.i c.loop-i.run-items) c.deref_mut-run-items.ensures.value c.loop-i.invariant)
+    (omega arith)

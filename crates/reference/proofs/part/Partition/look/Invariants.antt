@@ -1,12 +1,10 @@
-use Rattle.std.proofs.Common.{◌≡◌, ◌++◌, take, drop}
+use Rattle.std.proofs.Common.{map}
 use Rattle.cpu.specs.Rv32i.{rv32i}
 use Rattle.model.specs.Tick.{looked}
-use Rattle.reference.specs.Parts.{tasks_of, runs_of, heard_of}
+use Rattle.reference.specs.Parts.{run_of, task_of}
+use Rattle.reference.proofs.Looking.{Done}
 use Rattle.reference.proofs.part.Partition.look.Given as goal
 
 -- The tasks before the one at hand have been looked at, the others are as they were.
-abbrev pub invariant-tasks : goal.invariant-tasks
-invariant-tasks l =
-    (tasks_of l.self ≡ tasks_of l.initial.self)
-    × (runs_of l.self ≡ take l.i (looked rv32i (tasks_of l.initial.self) 0 l.time (runs_of l.initial.self)) ++ drop l.i (runs_of l.initial.self))
-    × (heard_of l.self ≡ heard_of l.initial.self)
+abbrev pub invariant-loop-i : goal.invariant-loop-i
+invariant-loop-i l = Done (looked rv32i (map task_of l.initial.run-items) 0 l.time (map run_of l.initial.run-items)) l.initial.run-items l.i l.run-items

@@ -1,0 +1,11 @@
+use Rattle.std.proofs.lemmas.List.{map-set}
+use Rattle.reference.specs.Parts.{tasks_of, runs_of, run_of, task_of}
+use Rattle.reference.proofs.part.Partition.put.Goals as goal
+
+pub returns-in-Some-clause-tasks : goal.returns-in-Some-clause-tasks
+unfolding tasks_of
+returns-in-Some-clause-tasks c = map-set task_of c.args.self.now.tasks.items c.args.i c.args.run
+
+pub returns-in-Some-clause-runs : goal.returns-in-Some-clause-runs
+unfolding runs_of
+returns-in-Some-clause-runs c = map-set run_of c.args.self.now.tasks.items c.args.i c.args.run
