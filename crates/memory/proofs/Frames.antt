@@ -1,11 +1,13 @@
 -- A block's control frames and memory: what is read in them, and what a write to the block leaves of them.
-use Rattle.std.proofs.Common.{◌≡◌, ℕ, ◌+◌, ◌-◌, ◌*◌, ◌/◌, ◌<◌, ◌≤◌, ◌⊎◌, List, ◌++◌, length, take, drop, sym, ap, ◌∙◌, inl, inr, ⊎_elim, arith, rules}
+use Rattle.std.proofs.Common.{◌≡◌, ℕ, ◌+◌, ◌-◌, ◌*◌, ◌/◌, ◌<◌, ◌≤◌, ◌⊎◌, List, ◌++◌, length, take, drop, sym, subst, ap, ◌∙◌, inl, inr, ⊎_elim, arith, rules}
 use Rattle.std.specs.List.{between}
 use Rattle.std.proofs.lemmas.List.{places, same_lists, drop-drop, length-take-le, length-drop, take-append-drop, take-take}
 use Rattle.std.proofs.lemmas.Slice.{between_is}
 use Rattle.octets.specs.Bytes.{put, number, at}
-use Rattle.octets.proofs.Puts.{length-put, between_put, between-put_other}
-use Rattle.memory.specs.Frames.{control_of, memory_of, frame, pages_of, leaf_entry, Mapped}
+use Rattle.octets.proofs.Puts.{put_is, length-put, between_put, between-put_other}
+use borrow.Rule.Slice.PartMut.{put_mid}
+use Rattle.std.proofs.lemmas.Bool.{cases_lt, cases_eq}
+use Rattle.memory.specs.Frames.{control_of, memory_of, frame, pages_of, leaf_entry, Mapped, OnlyFrame}
 
 -- ---- writes to a row, in front of a place and behind it
 
@@ -142,7 +144,7 @@ frame_behind n a b h l e = cut b ∙ ap (between (4096 * n - 8192) (4096 * n - 8
 
 -- ---- tables
 
-pages_kept : (a b : List ℕ) → length b ≡ length a → pages_of b ≡ pages_of a
+pub pages_kept : (a b : List ℕ) → length b ≡ length a → pages_of b ≡ pages_of a
 unfolding pages_of
 pages_kept a b e = ap (λ n. (n - 32768) / 4096) e
 
@@ -164,3 +166,31 @@ mapped_kept a b e l m = mapped_from a b l (λ k h. sym (at_control 4 b k (omega 
 -- A write behind the tables keeps them.
 pub mapped_put : (b ys : List ℕ) (k : ℕ) → 8192 ≤ k → k + length ys ≤ length b → Mapped b → Mapped (put b k ys)
 mapped_put b ys k h l m = mapped_from b (put b k ys) (length-put b ys k l) (λ j i. at-put-before 4 b ys k j (omega arith) l) m
+
+-- ---- a control frame behind the tables that was lent, and came back as f
+
+module _ (n : ℕ) (b f : List ℕ) (k : ℕ) (m : Mapped b) (low : 2 ≤ n) (high : n < 8) (e : length f ≡ 4096) (whole : k ≡ 4096) where
+  lent_room : 4096 * n + length f ≤ length b
+  lent_room = omega (arith, m.whole)
+
+  lent_is : put_mid (4096 * n) k b f ≡ put b (4096 * n) f
+  lent_is = put_is b f (4096 * n) k (e ∙ sym whole)
+
+  pub lent_mapped : Mapped (put_mid (4096 * n) k b f)
+  lent_mapped = subst Mapped (sym lent_is) (mapped_put b f (4096 * n) (omega arith) lent_room m)
+
+  pub lent_frame : frame n (put_mid (4096 * n) k b f) ≡ f
+  lent_frame = ap (frame n) lent_is ∙ frame_put-whole n b f e (omega (arith, lent_room))
+
+  pub lent_only : OnlyFrame n b (put_mid (4096 * n) k b f)
+  lent_only =
+      record {
+        memory = ap memory_of lent_is ∙ memory_put_below b f (4096 * n) (omega arith) lent_room;
+        others =
+            λ j h ne.
+            ap (frame j) lent_is
+            ∙ frame_put_other j b f (4096 * n) lent_room
+            (⊎_elim (λ (q : j ≡ n). absurd (ne q))
+            (λ (p : j ≡ n → ⊥). ⊎_elim (λ (l : j < n). inr (omega arith)) (λ (g : n ≤ j). inl (omega arith)) (cases_lt j n))
+            (cases_eq j n));
+      }

@@ -1,13 +1,12 @@
 -- What the entries of the tables say of an address, and what a walk says of an access.
-use Rattle.std.proofs.Common.{◌≡◌, ℕ, ◌+◌, ◌*◌, ◌/◌, ◌%◌, ◌<◌, ◌≤◌, cond, ltb, List, [], ◌∷◌, length, Some, None, sym, ap, ◌∙◌, ⊎_elim, arith, lit<}
-use native.Mathlib.Nat.{add-mul-div_left, add-mul-mod_self_left}
+use Rattle.std.proofs.Common.{◌≡◌, ℕ, ◌+◌, ◌*◌, ◌/◌, ◌%◌, ◌<◌, ◌≤◌, cond, ltb, List, length, Some, None, sym, ap, ◌∙◌, ⊎_elim, arith}
 use Rattle.std.proofs.lemmas.Bool.{cond-true, cond-false, cases_lt, lt-ltb, le-ltb, le-leb, and_left, and_from, eq-eqb, ne_eqb}
 use Rattle.std.proofs.lemmas.Bool.Decides.{nat_tests}
 use Rattle.decode.specs.declared.instruction.LoadKind.{LoadKind}
 use Rattle.decode.specs.declared.instruction.LoadKind.TheVariants.{Lb, Lh, Lw, Lbu, Lhu}
 use Rattle.decode.specs.declared.instruction.StoreKind.{StoreKind}
 use Rattle.decode.specs.declared.instruction.StoreKind.TheVariants.{Sb, Sh, Sw}
-use Rattle.octets.specs.Bytes.{at, bytes_of, put}
+use Rattle.octets.specs.Bytes.{at, put}
 use Rattle.cpu.specs.Effects.{inside}
 use Rattle.cpu.specs.Meaning.{load_bytes, store_bytes}
 use Rattle.memory.specs.Frames.{memory_of, control_of, pages_of, root_entry, leaf_entry, Mapped}
@@ -34,30 +33,29 @@ pub memory_pages : (b : List ℕ) → Mapped b → length (memory_of b) ≡ 4096
 memory_pages b m = omega (arith, length-memory b, m.whole)
 
 -- A walk that ends at the root entry, at the leaf entry, and in a page.
-module _ (b : List ℕ) (m : Mapped b) (a : ℕ) (small : a < 4294967296) (leaf : ℕ) (read : leaf ≡ at 4 b (4 * (a / 4194304))) where
-  root_is : leaf ≡ root_entry (a / 4194304)
-  root_is = read ∙ m.root (a / 4194304) (omega arith)
+module _ (b : List ℕ) (m : Mapped b) (a : ℕ) (small : a < 4294967296) where
+  root_is : at 4 b (4096 * 0 + 4 * (a / 4194304)) ≡ root_entry (a / 4194304)
+  root_is = let e : 4096 * 0 + 4 * (a / 4194304) ≡ 4 * (a / 4194304) = omega arith in ap (at 4 b) e ∙ m.root (a / 4194304) (omega arith)
 
-  pub no_leaf : leaf ≡ 0 → length (memory_of b) ≤ a
+  pub no_leaf : at 4 b (4096 * 0 + 4 * (a / 4194304)) ≡ 0 → length (memory_of b) ≤ a
   no_leaf e = omega (arith, root_none (a / 4194304) (sym root_is ∙ e), memory_pages b m, m.few)
 
-  leaf_frame : (leaf ≡ 0 → ⊥) → (leaf ≡ 1) × (a < 4194304)
-  leaf_frame h = let w = root_one (a / 4194304) (λ e. h (root_is ∙ e)) in (root_is ∙ w.1, omega (arith, w.0))
+  module _ (leaf : ℕ) (found : (leaf ≡ at 4 b (4096 * 0 + 4 * (a / 4194304))) × (0 < leaf)) where
+    pub leaf_frame : (leaf ≡ 1) × (a < 4194304)
+    leaf_frame = let w = root_one (a / 4194304) (λ e. omega (arith, found.0 ∙ root_is, e)) in (found.0 ∙ root_is ∙ w.1, omega (arith, w.0))
 
-  pub leaf_room : (leaf ≡ 0 → ⊥) → 4096 * leaf + 4 * (a / 4096 % 1024) + 4 ≤ length b
-  leaf_room h = omega (arith, (leaf_frame h).0, m.whole)
+    page_is : at 4 b (4096 * leaf + 4 * (a / 4096 % 1024)) ≡ leaf_entry (pages_of b) (a / 4096 % 1024)
+    page_is = ap (λ n. at 4 b (4096 * n + 4 * (a / 4096 % 1024))) leaf_frame.0 ∙ m.leaf (a / 4096 % 1024) (omega arith)
 
-  module _ (some : leaf ≡ 0 → ⊥) (page : ℕ) (read_next : page ≡ at 4 b (4096 * leaf + 4 * (a / 4096 % 1024))) where
-    page_is : page ≡ leaf_entry (pages_of b) (a / 4096 % 1024)
-    page_is = read_next ∙ ap (λ n. at 4 b (4096 * n + 4 * (a / 4096 % 1024))) (leaf_frame some).0 ∙ m.leaf (a / 4096 % 1024) (omega arith)
+    pub no_page : at 4 b (4096 * leaf + 4 * (a / 4096 % 1024)) ≡ 0 → length (memory_of b) ≤ a
+    no_page e = omega (arith, leaf_none (pages_of b) (a / 4096 % 1024) (sym page_is ∙ e), leaf_frame.1, memory_pages b m)
 
-    pub no_page : page ≡ 0 → length (memory_of b) ≤ a
-    no_page e = omega (arith, leaf_none (pages_of b) (a / 4096 % 1024) (sym page_is ∙ e), (leaf_frame some).1, memory_pages b m)
-
-    pub in_page : (page ≡ 0 → ⊥) → (a < length (memory_of b)) × (4096 * page + a % 4096 ≡ 32768 + a)
-    in_page h =
-        let w = leaf_page (pages_of b) (a / 4096 % 1024) (λ e. h (page_is ∙ e)) in
-        (omega (arith, w.0, (leaf_frame some).1, memory_pages b m), omega (arith, w.1, page_is, (leaf_frame some).1))
+    pub in_page :
+        (page : ℕ) → (page ≡ at 4 b (4096 * leaf + 4 * (a / 4096 % 1024))) × (0 < page)
+        → (a < length (memory_of b)) × (4096 * page + a % 4096 ≡ 32768 + a)
+    in_page page next =
+        let w = leaf_page (pages_of b) (a / 4096 % 1024) (λ e. omega (arith, next.0 ∙ page_is, e)) in
+        (omega (arith, w.0, leaf_frame.1, memory_pages b m), omega (arith, w.1, next.0 ∙ page_is, leaf_frame.1))
 
 -- What a walk to an address in memory, and to one outside it, gives.
 module _ (a n : ℕ) where
@@ -94,22 +92,11 @@ store_fits Sb a p e h = omega arith
 store_fits Sh a p e h = omega arith
 store_fits Sw a p e h = omega arith
 
--- The low bytes of a number are those of its remainder.
-pub low_1 : (v : ℕ) → bytes_of 1 (v % 256) ≡ bytes_of 1 v
-unfolding bytes_of
-low_1 v = let e : v % 256 % 256 ≡ v % 256 = omega arith in ap (λ x. x ∷ []) e
-
-pub low_2 : (v : ℕ) → bytes_of 2 (v % 65536) ≡ bytes_of 2 v
-unfolding bytes_of
-low_2 v =
-    let e : v % 65536 % 256 ≡ v % 256 = omega arith in
-    let whole : v ≡ v % 65536 + 256 * (256 * (v / 65536)) = omega arith in
-    let f : v % 65536 / 256 % 256 ≡ v / 256 % 256 =
-    sym
-    (ap (λ x. x / 256 % 256) whole
-    ∙ ap (λ x. x % 256) (add-mul-div_left (v % 65536) (256 * (v / 65536)) (lit< tt))
-    ∙ add-mul-mod_self_left (v % 65536 / 256) 256 (v / 65536)) in
-    ap (λ x. x ∷ v % 65536 / 256 % 256 ∷ []) e ∙ ap (λ x. v % 256 ∷ x ∷ []) f
+-- What a walk found in a block that is read, it found in the block.
+pub found_in :
+    (b b' : List ℕ) (a k : ℕ) → b ≡ b' → Some k ≡ cond (ltb a (length (memory_of b))) (Some (32768 + a)) None
+    → Some k ≡ cond (ltb a (length (memory_of b'))) (Some (32768 + a)) None
+found_in b b' a k e h = h ∙ ap (λ xs. cond (ltb a (length (memory_of xs))) (Some (32768 + a)) None) e
 
 -- Where an access that a walk found lies in memory, and in the block.
 module _ (b : List ℕ) (m : Mapped b) (a k : ℕ) (found : Some k ≡ cond (ltb a (length (memory_of b))) (Some (32768 + a)) None) where

@@ -1,6 +1,6 @@
 -- The block of a partition: a list of bytes in frames of 4096. The first eight frames are for control, and the page
 -- tables are the first two of them; the others are the partition's memory. Assumes nothing: these are definitions.
-use Rattle.std.specs.Prelude.{◌≡◌, ℕ, ◌+◌, ◌-◌, ◌*◌, ◌/◌, ◌<◌, ◌≤◌, cond, List, length, take, drop, ◌==◌, nat_lt}
+use Rattle.std.specs.Prelude.{◌≡◌, ℕ, ◌+◌, ◌-◌, ◌*◌, ◌/◌, ◌<◌, ◌≤◌, cond, List, length, take, drop, ◌==◌, ◌≢◌, nat_lt}
 use Rattle.std.specs.List.{between}
 use Rattle.octets.specs.Bytes.{at}
 
@@ -34,3 +34,8 @@ pub record Mapped (b : List ℕ) : Type 0 where
   pub few : pages_of b ≤ 1024
   pub root : (r : ℕ) → r < 1024 → at 4 b (4 * r) ≡ root_entry r
   pub leaf : (i : ℕ) → i < 1024 → at 4 b (4096 + 4 * i) ≡ leaf_entry (pages_of b) i
+
+-- Of a block's control frames and its memory, none is changed but frame n.
+pub record OnlyFrame (n : ℕ) (a b : List ℕ) : Type 0 where
+  pub memory : memory_of b ≡ memory_of a
+  pub others : (m : ℕ) → m < 8 → (m ≢ n) → frame m b ≡ frame m a

@@ -1,22 +1,19 @@
 -- A block as bytes come to it, and as it is at the start.
-use Rattle.std.proofs.Common.{◌≡◌, ℕ, ◌+◌, ◌≤◌, Bool, true, false, cond, ltb, List, [], ◌∷◌, ◌++◌, map, length, drop, Some, None, sym, refl, ap, ◌∙◌, subst, inr, arith}
+use Rattle.std.proofs.Common.{◌≡◌, ℕ, ◌+◌, ◌≤◌, Bool, true, false, cond, ltb, List, [], ◌∷◌, ◌++◌, map, length, drop, Some, None, sym, refl, ap, ◌∙◌, arith}
 use Rattle.std.specs.List.{range_with_len, slice_get}
 use Rattle.std.proofs.lemmas.List.{append-nil, drop_all}
-use Rattle.octets.specs.Bytes.{put, bytes_of}
-use Rattle.octets.proofs.Numbers.{length-bytes_of}
+use Rattle.octets.specs.Bytes.{put}
 use Rattle.cpu.specs.Core.{Core, fresh}
 use Rattle.cpu.specs.Rv32i.{rv32i}
 use Rattle.model.specs.declared.plan.Task.{Task}
 use Rattle.model.specs.declared.plan.State.TheVariants.{Ready}
 use Rattle.model.specs.World.{Run}
 use Rattle.model.specs.Tick.{hearing, with_heard, new_runs}
-use Rattle.memory.specs.Frames.{memory_of, frame, Mapped}
-use Rattle.memory.proofs.Frames.{memory_put_below, frame_put_other, mapped_put}
+use Rattle.memory.specs.Frames.{memory_of, frame}
 use Rattle.tasks.specs.Records.{run_at, task_at, runs_in, tasks_in}
 use Rattle.tasks.specs.Unheard.{heard_in}
-use Rattle.partition.specs.Block.{count_of, over, runs_of, tasks_of, part_of, TableKept, CountOnly}
+use Rattle.partition.specs.Block.{count_of, over, runs_of, tasks_of, part_of, TableKept}
 use Rattle.partition.proofs.Owns.{one_run, one_task}
-use Rattle.partition.proofs.Lent.{mapped_room}
 
 -- The tasks stay with the table and their number.
 pub runs_kept : (a b : List ℕ) → TableKept a b → runs_of b ≡ runs_of a
@@ -42,23 +39,6 @@ unfolding part_of over hearing
 arrived a b byte s m k h =
     (λ j. record { memory = m j; tasks = runs_kept a b k j; heard = h j; shown = s })
     ∙ by_room (ltb (length (heard_in (frame 3 a))) 1024) a (runs_of a) s (heard_in (frame 3 a) ++ byte ∷ []) (heard_in (frame 3 a)) refl
-
--- The number of tasks was written.
-module _ (b b' : List ℕ) (n : ℕ) (m : Mapped b) (e : b' ≡ put b 16384 (bytes_of 1 n)) where
-  one_byte : length (bytes_of 1 n) ≡ 1
-  one_byte = length-bytes_of 1 n
-
-  room : 32768 ≤ length b
-  room = mapped_room b m
-
-  pub count_only : CountOnly b b'
-  count_only =
-      record {
-        memory = ap memory_of e ∙ memory_put_below b (bytes_of 1 n) 16384 (omega (arith, one_byte)) (omega (arith, one_byte, room));
-        table = ap (frame 2) e ∙ frame_put_other 2 b (bytes_of 1 n) 16384 (omega (arith, one_byte, room)) (inr (omega arith));
-        unheard = ap (frame 3) e ∙ frame_put_other 3 b (bytes_of 1 n) 16384 (omega (arith, one_byte, room)) (inr (omega arith));
-        mapped = subst Mapped (sym e) (mapped_put b (bytes_of 1 n) 16384 (omega arith) (omega (arith, one_byte, room)) m);
-      }
 
 -- A write over the whole.
 pub put_all : (xs ys : List ℕ) → length ys ≡ length xs → put xs 0 ys ≡ ys

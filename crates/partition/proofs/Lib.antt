@@ -1,7 +1,7 @@
-pub mod Stretch
-pub mod Worlds
-pub mod Lent
-pub mod Steps
 pub mod Bursts
-pub mod Owns
+pub mod Kept
 pub mod Lays
+pub mod Owns
+pub mod Steps
+pub mod Ticks
+pub mod Worlds

@@ -9,16 +9,18 @@ use Rattle.model.specs.declared.plan.State.{State}
 use Rattle.model.specs.declared.plan.State.TheVariants.{Ready, Waiting, Stopped}
 use Rattle.model.specs.World.{Run}
 use Rattle.model.specs.Tick.{is_ready, is_waiting, better, first_ready, looked, checked, woken, with_tasks, update, goes_on}
-use Rattle.memory.specs.Frames.{memory_of, frame}
+use Rattle.memory.specs.Frames.{memory_of, frame, OnlyFrame}
 use Rattle.tasks.specs.Records.{run_at, task_at, runs_in, tasks_in}
 use Rattle.tasks.specs.Unheard.{heard_in}
-use Rattle.partition.specs.Block.{count_of, over, runs_of, tasks_of, part_of, Own, TableOnly}
+use Rattle.partition.specs.Block.{count_of, over, runs_of, tasks_of, part_of}
 use Rattle.partition.specs.Stretch.{part_ticks, looked_ticks, Busy}
 use Rattle.partition.specs.Shown.{Ran}
 use Rattle.partition.specs.declared.came.Burst.{Burst}
 use Rattle.partition.specs.Steps.{ended_by, Bursted}
-use Rattle.partition.proofs.Stretch.{part_ticks_add, idle_ticks, idle_looked, look_first}
+use Rattle.partition.proofs.Ticks.{part_ticks_add, idle_ticks, idle_looked, look_first}
 use Rattle.partition.proofs.Bursts.{put-none, entries_behind}
+use Rattle.partition.proofs.Kept.{unheard_kept, count_kept}
+use Rattle.partition.specs.declared.shown.Shown.{Shown}
 
 pub one_run : (b : List ℕ) → count_of b ≡ 1 → runs_of b ≡ run_at (frame 2 b) 0 ∷ []
 unfolding runs_of runs_in
@@ -51,13 +53,13 @@ plan_kept a b one same e = one_task b (same ∙ one) ∙ ap (λ k. k ∷ []) e �
 
 -- The task was looked at in the table.
 pub looked_part :
-    (a b : List ℕ) (t : ℕ) (s : List (ℕ × ℕ)) → count_of a ≡ 1 → TableOnly a b →
+    (a b : List ℕ) (t : ℕ) (s : List (ℕ × ℕ)) → count_of a ≡ 1 → OnlyFrame 2 a b →
     run_at (frame 2 b) 0 ≡ checked (task_at (frame 2 a) 0) t (woken rv32i (task_at (frame 2 a) 0) 0 t (run_at (frame 2 a) 0)) →
     part_of b s ≡ with_tasks (part_of a s) (looked rv32i (tasks_of a) 0 t (part_of a s).tasks)
 unfolding part_of
 looked_part a b t s one only e =
-    over_same a b only.memory only.unheard (runs_of b) s
-    ∙ ap (λ rs. over a rs s) (one_run b (only.count ∙ one) ∙ ap (λ r. r ∷ []) e ∙ sym (look_one (task_at (frame 2 a) 0) (run_at (frame 2 a) 0) t))
+    over_same a b only.memory (unheard_kept only) (runs_of b) s
+    ∙ ap (λ rs. over a rs s) (one_run b (count_kept only ∙ one) ∙ ap (λ r. r ∷ []) e ∙ sym (look_one (task_at (frame 2 a) 0) (run_at (frame 2 a) 0) t))
     ∙ (λ j. over a (looked rv32i (sym (one_task a one) j) 0 t (sym (one_run a one) j)) s)
     ∙ ap (λ rs. over a (looked rv32i (tasks_of a) 0 t rs) s) (sym (tasks_over a (runs_of a) s))
     ∙ sym (with_over a (runs_of a) (looked rv32i (tasks_of a) 0 t (over a (runs_of a) s).tasks) s)
@@ -113,11 +115,17 @@ look_core k u r c ready same =
     in_time : leb (r.began + k.deadline) u ≡ false
     in_time = not_late k u r (leb (r.began + k.deadline) u) is (sym (checked_ready k u r is) ∙ ap (checked k u) (sym (woken_ready k u r is)) ∙ same)
 
+-- What was read in a record is what the task has.
+pub still_for :
+    (k k' : Task) (r r' : Run Core) (i t : ℕ) → k ≡ k' → r ≡ r' → i ≡ 0 → checked k t (woken rv32i k i t r) ≡ r →
+    checked k' t (woken rv32i k' 0 t r') ≡ r'
+still_for k k' r r' i t ek er ei e = sym (λ j. checked (ek j) t (woken rv32i (ek j) (ei j) t (er j))) ∙ e ∙ er
+
 -- Ticks in a row.
 pub ran_then :
-    (a b d z z₁ z₂ : List ℕ) (k k₁ k₂ t m n : ℕ) → Ran a b z z₁ k k₁ t m → Ran b d z₁ z₂ k₁ k₂ (t + m) n → k + 9 * (m + n) ≤ length z →
-    Ran a d z z₂ k k₂ t (m + n)
-ran_then a b d z z₁ z₂ k k₁ k₂ t m n x y room =
+    (a b d : List ℕ) (z z₁ z₂ : Shown) (t m n : ℕ) → Ran a b z z₁ t m → Ran b d z₁ z₂ (t + m) n → z.«at» + 9 * (m + n) ≤ length z.bytes.now →
+    Ran a d z z₂ t (m + n)
+ran_then a b d z z₁ z₂ t m n x y room =
     record {
       entries = x.entries ++ y.entries;
       part = λ q s.
@@ -126,25 +134,27 @@ ran_then a b d z z₁ z₂ k k₁ k₂ t m n x y room =
           ∙ ap (λ ks. part_ticks q ks (t + m) n (part_of b (s ++ x.entries))) x.plan
           ∙ ap (part_ticks q (tasks_of a) (t + m) n) (x.part q s)
           ∙ sym (part_ticks_add q (tasks_of a) t m n (part_of a s));
-      slice = entries_behind z z₁ z₂ k k₁ x.entries y.entries x.slice x.behind y.slice (omega (arith, x.few, y.few));
+      slice = entries_behind z.bytes.now z₁.bytes.now z₂.bytes.now z.«at» z₁.«at» x.entries y.entries x.slice x.behind y.slice (omega (arith, x.few, y.few));
+      bytes = y.bytes ∙ x.bytes;
       behind = omega (arith, x.behind, y.behind, length-append x.entries y.entries);
       few = omega (arith, x.few, y.few, length-append x.entries y.entries);
       plan = y.plan ∙ x.plan;
-      own = y.own;
+      count = y.count ∙ x.count;
     }
 
 -- No ticks, and ticks of a partition with no tasks.
-pub ran_none : (b z : List ℕ) (k t : ℕ) → Own b → Ran b b z z k k t 0
+pub ran_none : (b : List ℕ) (z : Shown) (t : ℕ) → Ran b b z z t 0
 unfolding part_ticks
-ran_none b z k t own =
+ran_none b z t =
     record {
       entries = [];
       part = λ q s. ap (part_of b) (append-nil s);
-      slice = sym (put-none z k);
+      slice = sym (put-none z.bytes.now z.«at»);
+      bytes = refl;
       behind = omega arith;
       few = omega arith;
       plan = refl;
-      own = own;
+      count = refl;
     }
 
 tasks_part : (b : List ℕ) (s : List (ℕ × ℕ)) → (part_of b s).tasks ≡ runs_of b
@@ -167,8 +177,8 @@ first_empty : (ks : List Task) → first_ready {C = Core} ks 0 [] ≡ None
 unfolding first_ready
 first_empty ks = refl
 
-pub ran_nobody : (b z : List ℕ) (k t n : ℕ) → Own b → count_of b ≡ 0 → Ran b b z z k k t n
-ran_nobody b z k t n own none =
+pub ran_nobody : (b : List ℕ) (z : Shown) (t n : ℕ) → count_of b ≡ 0 → Ran b b z z t n
+ran_nobody b z t n none =
     record {
       entries = [];
       part = λ q s.
@@ -176,11 +186,12 @@ ran_nobody b z k t n own none =
           ∙ sym
           (idle_ticks q (tasks_of b) t n (part_of b s)
           (λ j h. ap (looked rv32i (tasks_of b) 0 (t + j)) (runs s) ∙ looked_empty (tasks_of b) (t + j) ∙ sym (runs s)) (ap (first_ready (tasks_of b) 0) (runs s) ∙ first_empty (tasks_of b)));
-      slice = sym (put-none z k);
+      slice = sym (put-none z.bytes.now z.«at»);
+      bytes = refl;
       behind = omega arith;
       few = omega arith;
       plan = refl;
-      own = own;
+      count = refl;
     }
   where
     runs : (s : List (ℕ × ℕ)) → (part_of b s).tasks ≡ []
@@ -188,26 +199,27 @@ ran_nobody b z k t n own none =
 
 -- Ticks in which the task is not ready, from its look on.
 pub ran_idle :
-    (a b z : List ℕ) (k t n : ℕ) → count_of a ≡ 1 → TableOnly a b → 0 < n →
+    (a b : List ℕ) (z : Shown) (t n : ℕ) → count_of a ≡ 1 → OnlyFrame 2 a b → 0 < n →
     run_at (frame 2 b) 0 ≡ checked (task_at (frame 2 a) 0) t (woken rv32i (task_at (frame 2 a) 0) 0 t (run_at (frame 2 a) 0)) →
     task_at (frame 2 b) 0 ≡ task_at (frame 2 a) 0 → is_ready (run_at (frame 2 b) 0).state ≡ false →
     ((j : ℕ) → j + 1 < n → checked (task_at (frame 2 b) 0) (t + 1 + j) (woken rv32i (task_at (frame 2 b) 0) 0 (t + 1 + j) (run_at (frame 2 b) 0)) ≡ run_at (frame 2 b) 0) →
-    Ran a b z z k k t n
-ran_idle a b z k t n one only some run plan idle still =
+    Ran a b z z t n
+ran_idle a b z t n one only some run plan idle still =
     record {
       entries = [];
       part = λ q s.
           ap (part_of b) (append-nil s)
           ∙ sym (look_first q (tasks_of a) t n (part_of a s) (part_of b s) (looked_part a b t s one only run) some ∙ idle_looked q (tasks_of a) t n (part_of b s) (same s) (first s));
-      slice = sym (put-none z k);
+      slice = sym (put-none z.bytes.now z.«at»);
+      bytes = refl;
       behind = omega arith;
       few = omega arith;
-      plan = plan_kept a b one only.count plan;
-      own = record { mapped = only.mapped; few = omega (arith, only.count, one) };
+      plan = plan_kept a b one (count_kept only) plan;
+      count = count_kept only;
     }
   where
     runs : (s : List (ℕ × ℕ)) → (part_of b s).tasks ≡ run_at (frame 2 b) 0 ∷ []
-    runs s = tasks_part b s ∙ one_run b (only.count ∙ one)
+    runs s = tasks_part b s ∙ one_run b (count_kept only ∙ one)
 
     tasks : tasks_of a ≡ task_at (frame 2 b) 0 ∷ []
     tasks = one_task a one ∙ ap (λ k. k ∷ []) (sym plan)
@@ -244,14 +256,14 @@ update_one r f = refl
 
 -- Ticks in which the task goes, from its look on, until what became of it is in the table again.
 pub ran_busy :
-    (a b₁ b₂ b₃ z z' : List ℕ) (k t n : ℕ) (c c' : Core) (r : Burst) → count_of a ≡ 1 → TableOnly a b₁ →
+    (a b₁ b₂ b₃ : List ℕ) (z z' : Shown) (t n : ℕ) (c c' : Core) (r : Burst) → count_of a ≡ 1 → OnlyFrame 2 a b₁ →
     run_at (frame 2 b₁) 0 ≡ checked (task_at (frame 2 a) 0) t (woken rv32i (task_at (frame 2 a) 0) 0 t (run_at (frame 2 a) 0)) →
     task_at (frame 2 b₁) 0 ≡ task_at (frame 2 a) 0 → is_ready (run_at (frame 2 b₁) 0).state ≡ true →
     ((j : ℕ) → j + 1 < n → checked (task_at (frame 2 b₁) 0) (t + 1 + j) (woken rv32i (task_at (frame 2 b₁) 0) 0 (t + 1 + j) (run_at (frame 2 b₁) 0)) ≡ run_at (frame 2 b₁) 0) →
-    c ≡ (run_at (frame 2 b₁) 0).core → Bursted b₁ b₂ c c' z z' k t n r → 0 < r.ticks → TableOnly b₂ b₃ →
+    c ≡ (run_at (frame 2 b₁) 0).core → Bursted b₁ b₂ c c' z z' t n r → 0 < r.ticks → OnlyFrame 2 b₂ b₃ →
     run_at (frame 2 b₃) 0 ≡ ended_by r.«end» c' (run_at (frame 2 b₂) 0) → task_at (frame 2 b₃) 0 ≡ task_at (frame 2 b₂) 0 →
-    Ran a b₃ z z' k r.«at» t r.ticks
-ran_busy a b₁ b₂ b₃ z z' k t n c c' r one only run plan ready still core done some left ended planned =
+    Ran a b₃ z z' t r.ticks
+ran_busy a b₁ b₂ b₃ z z' t n c c' r one only run plan ready still core done some left ended planned =
     record {
       entries = done.entries;
       part = λ q s.
@@ -262,20 +274,21 @@ ran_busy a b₁ b₂ b₃ z z' k t n c c' r one only run plan ready still core d
           ∙ done.part q 0 (task_at (frame 2 b₁) 0 ∷ []) (run_at (frame 2 b₁) 0 ∷ []) s (one_busy (task_at (frame 2 b₁) 0) (run_at (frame 2 b₁) 0) t n ready still));
       slice = done.slice;
       behind = done.behind;
+      bytes = done.bytes;
       few = done.few;
+      count = count;
       plan = plan_kept a b₃ one count (planned ∙ ap (λ f. task_at f 0) done.kept.table ∙ plan);
-      own = record { mapped = left.mapped; few = omega (arith, count, one) };
     }
   where
     count : count_of b₃ ≡ count_of a
-    count = left.count ∙ done.kept.count ∙ only.count
+    count = count_kept left ∙ done.kept.count ∙ count_kept only
 
     tasks : tasks_of a ≡ task_at (frame 2 b₁) 0 ∷ []
     tasks = one_task a one ∙ ap (λ k. k ∷ []) (sym plan)
 
     begins : (s : List (ℕ × ℕ)) → part_of b₁ s ≡ over b₁ (update (run_at (frame 2 b₁) 0 ∷ []) 0 (goes_on c)) s
     begins s =
-        part_one b₁ s (only.count ∙ one)
+        part_one b₁ s (count_kept only ∙ one)
         ∙ ap (λ w. over b₁ (w ∷ []) s) (sym (ap (λ d. goes_on d (run_at (frame 2 b₁) 0)) core ∙ goes_self (run_at (frame 2 b₁) 0) ready))
         ∙ ap (λ ws. over b₁ ws s) (sym (update_one (run_at (frame 2 b₁) 0) (goes_on c)))
 
@@ -283,5 +296,5 @@ ran_busy a b₁ b₂ b₃ z z' k t n c c' r one only run plan ready still core d
     part_is s =
         part_one b₃ (s ++ done.entries) (count ∙ one)
         ∙ ap (λ w. over b₃ (w ∷ []) (s ++ done.entries)) (ended ∙ ap (λ f. ended_by r.«end» c' (run_at f 0)) done.kept.table)
-        ∙ over_same b₂ b₃ left.memory left.unheard (ended_by r.«end» c' (run_at (frame 2 b₁) 0) ∷ []) (s ++ done.entries)
+        ∙ over_same b₂ b₃ left.memory (unheard_kept left) (ended_by r.«end» c' (run_at (frame 2 b₁) 0) ∷ []) (s ++ done.entries)
         ∙ ap (λ ws. over b₂ ws (s ++ done.entries)) (sym (update_one (run_at (frame 2 b₁) 0) (ended_by r.«end» c')))

@@ -1,13 +1,16 @@
 -- What instructions and calls come to over a block.
-use Rattle.std.proofs.Common.{◌≡◌, ℕ, ◌-◌, ◌%◌, cond, List, [], ◌∷◌, ◌++◌, length, drop, Some, None, Option, sym, refl, ap, ◌∙◌, arith}
+use Rattle.std.proofs.Common.{◌≡◌, ℕ, ◌+◌, ◌%◌, ◌≤◌, cond, leb, List, [], ◌∷◌, ◌++◌, length, drop, Some, None, Option, sym, refl, ap, ◌∙◌, arith}
 use Rattle.octets.specs.Bytes.{put, at}
 use Rattle.cpu.specs.Act.{quiet, store, wrong}
 use Rattle.cpu.specs.declared.effect.Effect.TheVariants.{Calls}
+use Rattle.decode.specs.declared.instruction.LoadKind.{LoadKind}
 use Rattle.cpu.specs.Effects.{inside}
+use Rattle.cpu.specs.Meaning.{load_bytes, extended}
+use Rattle.std.proofs.lemmas.Bool.{cond-true, le-leb}
 use Rattle.cpu.specs.Rv32i.{effect_fetched}
-use Rattle.memory.specs.Frames.{control_of, Mapped}
-use Rattle.memory.proofs.Frames.{length-memory, frame_kept}
-use Rattle.partition.proofs.Lent.{count_frame}
+use Rattle.memory.specs.Frames.{control_of}
+use Rattle.memory.proofs.Frames.{frame_kept}
+use Rattle.partition.proofs.Kept.{count_frame, kept_self}
 use Rattle.std.proofs.lemmas.List.{append-nil}
 use Rattle.cpu.specs.declared.call.Call.{Call}
 use Rattle.cpu.specs.declared.call.Call.TheVariants.{Show, Wait, Clock, Send, Take, Hear, Unknown}
@@ -81,24 +84,32 @@ module _ (b : List ℕ) (k c : Core) (t : ℕ) where
       says Hear e q i rs s
       ∙ (λ j. record { memory = sym m j; tasks = update rs i (goes_on (sym g j)); heard = sym h j; shown = sym (append-nil s) j })
 
--- The effect of the instruction at hand, as the core finds it with the word fetched and the block's length.
-pub effect_is :
-    (b : List ℕ) (k : Core) (w : Option ℕ) (e : Effect) →
-    w ≡ cond (inside 4 k.pc (length (memory_of b))) (Some (at 4 (memory_of b) k.pc)) None → e ≡ effect_fetched k w (length b - 32768) →
+-- The effect of the instruction at hand, as the core finds it with the word that was fetched from the block as it is read.
+pub comes_to :
+    (b r : List ℕ) (k : Core) (pc n : ℕ) (w : Option ℕ) (e : Effect) → r ≡ b → pc ≡ k.pc →
+    w ≡ cond (inside 4 pc (length (memory_of r))) (Some (at 4 (memory_of r) pc)) None → n ≡ length (memory_of r) → e ≡ effect_fetched k w n →
     effect_at k (memory_of b) ≡ e
-effect_is b k w e hw he =
+comes_to b r k pc n w e same here hw hn he =
     sym
     (he
-    ∙ ap (λ w. effect_fetched k w (length b - 32768)) hw
-    ∙ ap (λ n. effect_fetched k (cond (inside 4 k.pc (length (memory_of b))) (Some (at 4 (memory_of b) k.pc)) None) n) (sym (length-memory b)))
+    ∙ ap (effect_fetched k w) hn
+    ∙ ap (λ w. effect_fetched k w (length (memory_of r))) hw
+    ∙ ap (λ p. effect_fetched k (cond (inside 4 p (length (memory_of r))) (Some (at 4 (memory_of r) p)) None) (length (memory_of r))) here
+    ∙ ap (λ xs. effect_fetched k (cond (inside 4 k.pc (length (memory_of xs))) (Some (at 4 (memory_of xs) k.pc)) None) (length (memory_of xs))) same)
 
-pub kept_self : (b : List ℕ) → Mapped b → TableKept b b
-kept_self b m = record { table = refl; count = refl; mapped = m }
+-- What was loaded, where the access is inside.
+pub loaded :
+    (b r : List ℕ) (kind : LoadKind) (a v : ℕ) → r ≡ b → a + load_bytes kind ≤ length (memory_of r) →
+    Some v ≡ cond (leb (a + load_bytes kind) (length (memory_of r))) (Some (extended kind (at (load_bytes kind) (memory_of r) a))) None →
+    v ≡ extended kind (at (load_bytes kind) (memory_of b) a)
+loaded b r kind a v same fits e =
+    let s : Some v ≡ Some (extended kind (at (load_bytes kind) (memory_of r) a)) = e ∙ cond-true _ _ _ (le-leb _ _ fits) in
+    let w : v ≡ extended kind (at (load_bytes kind) (memory_of r) a) = cc in
+    w ∙ ap (λ xs. extended kind (at (load_bytes kind) (memory_of xs) a)) same
 
 -- A store keeps the control frames.
-pub kept_control : (b b' : List ℕ) → control_of b' ≡ control_of b → Mapped b' → TableKept b b'
-kept_control b b' e m =
-    record { table = frame_kept 2 b b' (omega arith) e; count = count_frame b b' (frame_kept 4 b b' (omega arith) e); mapped = m }
+pub kept_control : (b b' : List ℕ) → control_of b' ≡ control_of b → TableKept b b'
+kept_control b b' e = record { table = frame_kept 2 b b' (omega arith) e; count = count_frame b b' (frame_kept 4 b b' (omega arith) e) }
 
 module _ (b : List ℕ) (k c : Core) (t : ℕ) (e : Effect) (comes : effect_at k (memory_of b) ≡ e) where
   by_effect : (q i : ℕ) (rs : List (Run Core)) (s : List (ℕ × ℕ)) →
@@ -106,31 +117,31 @@ module _ (b : List ℕ) (k c : Core) (t : ℕ) (e : Effect) (comes : effect_at k
   by_effect q i rs s = ap (λ (e : Effect). (acted q t none_seen (over b rs s) i (performed k (memory_of b) e)).part) comes
 
   -- It goes on with another core.
-  pub did_quiet : performed k (memory_of b) e ≡ quiet c → Mapped b → Did b b k c t Goes
+  pub did_quiet : performed k (memory_of b) e ≡ quiet c → Did b b k c t Goes
   unfolding acted
-  did_quiet p m =
+  did_quiet p =
       record {
         part = λ q i rs s. by_effect q i rs s ∙ ap (λ a. (acted q t none_seen (over b rs s) i a).part) p ∙ changing_over b rs s i (goes_on c);
         still = tt;
-        kept = kept_self b m;
+        kept = kept_self b;
       }
 
   -- It is wrong.
-  pub did_wrong : performed k (memory_of b) e ≡ wrong → Mapped b → Did b b k k t Stops
+  pub did_wrong : performed k (memory_of b) e ≡ wrong → Did b b k k t Stops
   unfolding acted
-  did_wrong p m =
+  did_wrong p =
       record {
         part = λ q i rs s. by_effect q i rs s ∙ ap (λ a. (acted q t none_seen (over b rs s) i a).part) p ∙ changing_over b rs s i stops;
         still = refl;
-        kept = kept_self b m;
+        kept = kept_self b;
       }
 
   -- It stores.
   pub did_store :
       (b' : List ℕ) (a : ℕ) (bs : List ℕ) → performed k (memory_of b) e ≡ store a bs c → memory_of b' ≡ put (memory_of b) a bs →
-      control_of b' ≡ control_of b → Mapped b' → Did b b' k c t Goes
+      control_of b' ≡ control_of b → Did b b' k c t Goes
   unfolding acted with_memory changing with_tasks over
-  did_store b' a bs p m f mapped =
+  did_store b' a bs p m f =
       record {
         part =
             λ q i rs s.
@@ -138,7 +149,7 @@ module _ (b : List ℕ) (k c : Core) (t : ℕ) (e : Effect) (comes : effect_at k
             ∙ ap (λ a. (acted q t none_seen (over b rs s) i a).part) p
             ∙ (λ j. record { memory = sym m j; tasks = update rs i (goes_on c); heard = heard_in (sym (frame_kept 3 b b' (omega arith) f) j); shown = sym (append-nil s) j });
         still = tt;
-        kept = kept_control b b' f mapped;
+        kept = kept_control b b' f;
       }
 
 -- It calls.

@@ -32,22 +32,7 @@ pub record Own (b : List ℕ) : Type 0 where
   pub mapped : Mapped b
   pub few : count_of b ≤ 1
 
--- The frames that are no memory, and the tables of addresses, but for the task table: they stay as they were.
-pub record TableOnly (b b' : List ℕ) : Type 0 where
-  pub memory : memory_of b' ≡ memory_of b
-  pub unheard : frame 3 b' ≡ frame 3 b
-  pub count : count_of b' ≡ count_of b
-  pub mapped : Mapped b'
-
 -- The task table and the number of tasks stay as they were.
 pub record TableKept (b b' : List ℕ) : Type 0 where
   pub table : frame 2 b' ≡ frame 2 b
   pub count : count_of b' ≡ count_of b
-  pub mapped : Mapped b'
-
--- All stays as it was but for the number of tasks.
-pub record CountOnly (b b' : List ℕ) : Type 0 where
-  pub memory : memory_of b' ≡ memory_of b
-  pub table : frame 2 b' ≡ frame 2 b
-  pub unheard : frame 3 b' ≡ frame 3 b
-  pub mapped : Mapped b'

@@ -1,69 +1,49 @@
 //! A burst of instructions of one task, whose registers are at hand.
-ghost use Rattle.std.specs.Prelude.{◌≡◌, ◌+◌, ◌*◌, ◌^◌, ◌<◌, ◌≤◌, [], ◌∷◌, ◌++◌, length};
-ghost use Rattle.octets.specs.Bytes.{put};
+ghost use Rattle.std.specs.Prelude.{◌≡◌, ◌+◌, ◌*◌, ◌<◌, ◌≤◌, length};
 ghost use Rattle.cpu.specs.Held.{core_of};
-ghost use Rattle.memory.specs.Frames.{Mapped};
-ghost use Rattle.partition.specs.Shown.{entry_bytes};
 ghost use Rattle.partition.specs.Steps.{Bursted};
 
-use crate::came::{Burst, Came, End};
+use crate::came::{Burst, Came};
+use crate::shown::Shown;
 use crate::step::instruction;
+use crate::stretch::Stretch;
 use cpu::registers::Registers;
+use memory::block_mut::BlockMut;
+use model::plan::State;
 
-/// The bytes of an entry for a shown byte.
-const ENTRY: usize = 9;
-
-/// Writes what is shown in a tick.
-fn note(shown: &mut [u8], at: usize, time: u64, byte: u8)
-    requires room { at + 9 ≤ length shown.old }
-    ensures after { shown.new ≡ put shown.old at (entry_bytes (time, byte)) }
-{
-    octets::write_u64(shown, at, time);
-    octets::write_u8(shown, at + 8, byte);
-}
-
-/// Instructions in at most n ticks from `time` on, until the task waits or stops. What is shown is written from `at` on.
+/// Instructions in these ticks at most, until the task waits or stops.
 pub(crate) fn burst(
-    b: &mut [u8],
+    b: &mut BlockMut<'_>,
     core: &mut Registers,
-    time: u64,
-    n: u64,
-    shown: &mut [u8],
-    at: usize,
+    stretch: Stretch,
+    shown: &mut Shown<'_>,
 ) -> Burst
-    requires mapped { Mapped b.old }
-    requires clock { time + n ≤ 2 ^ 40 }
-    requires room { at + 9 * n ≤ length shown.old }
-    ensures bursted { Bursted b.old b.new (core_of core.old) (core_of core.new) shown.old shown.new at time n result }
-    ensures some { 0 < n → 0 < result.ticks }
+    requires room { shown.old.at + 9 * stretch.ticks ≤ length shown.old.bytes.now }
+    ensures bursted { Bursted b.old.bytes.now b.new.bytes.now (core_of core.old) (core_of core.new) shown.old shown.new stretch.from stretch.ticks result }
+    ensures some { 0 < stretch.ticks → 0 < result.ticks }
+    ensures bytes { b.new.bytes.ghost_name ≡ b.old.bytes.ghost_name }
 {
-    let mut end = at;
-    for k in 0..n {
-        match instruction(b, core, time + k) {
+    for k in 0..stretch.ticks {
+        let time = stretch.from + k;
+        match instruction(b, core, time) {
             Came::Goes => {}
-            Came::Shows(byte) => {
-                note(shown, end, time + k, byte);
-                end += ENTRY;
-            }
+            Came::Shows(byte) => shown.note(time, byte),
             Came::Waits => {
                 return Burst {
                     ticks: k + 1,
-                    at: end,
-                    end: End::Waiting,
+                    end: State::Waiting,
                 };
             }
             Came::Stops => {
                 return Burst {
                     ticks: k + 1,
-                    at: end,
-                    end: End::Stopped,
+                    end: State::Stopped,
                 };
             }
         }
     }
     Burst {
-        ticks: n,
-        at: end,
-        end: End::Ready,
+        ticks: stretch.ticks,
+        end: State::Ready,
     }
 }

@@ -1,4 +1,5 @@
 //! What instructions come to.
+use model::plan::State;
 
 /// What an instruction comes to for the task that did it.
 #[derive(Clone, Copy)]
@@ -13,25 +14,9 @@ pub(crate) enum Came {
     Stops,
 }
 
-/// How a task ended a burst of instructions.
-#[derive(Clone, Copy)]
-pub(crate) enum End {
-    Ready,
-    Waiting,
-    Stopped,
-}
-
-/// A burst of instructions: how many ticks it took, up to where the shown bytes stand, and how it ended.
+/// A burst of instructions: how many ticks it took, and how it left the task.
 #[derive(Clone, Copy)]
 pub(crate) struct Burst {
     pub ticks: u64,
-    pub at: usize,
-    pub end: End,
-}
-
-/// Some own ticks: how many, and up to where the shown bytes stand.
-#[derive(Clone, Copy)]
-pub(crate) struct Bout {
-    pub ticks: u64,
-    pub at: usize,
+    pub end: State,
 }

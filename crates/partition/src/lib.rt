@@ -1,10 +1,11 @@
-//! A partition's own ticks.
+//! A partition's own block, and its own ticks.
 #![tactic(auto)]
 
-pub mod arrive;
 mod burst;
 mod came;
 mod frames;
-pub mod lay;
 pub mod own;
+pub mod shown;
 mod step;
+pub mod stretch;
+mod task;

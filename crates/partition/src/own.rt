@@ -1,113 +1,147 @@
-//! A partition's own ticks.
-ghost use Rattle.std.specs.Prelude.{◌≡◌, ◌+◌, ◌*◌, ◌^◌, ◌<◌, ◌≤◌, true, length};
-ghost use Rattle.cpu.specs.Held.{core_of};
+//! A partition's own block, and its own ticks.
+ghost use Rattle.std.specs.Prelude.{◌≡◌, ℕ, ◌+◌, ◌*◌, ◌<◌, ◌≤◌, [], List, length};
 ghost use Rattle.cpu.specs.Rv32i.{rv32i};
-ghost use Rattle.model.specs.Tick.{is_ready, checked, woken};
-ghost use Rattle.memory.specs.Frames.{frame, Mapped};
-ghost use Rattle.tasks.specs.Records.{run_at, task_at};
-ghost use Rattle.partition.specs.Block.{count_of, Own, TableOnly};
+ghost use Rattle.model.specs.Tick.{hearing, new_runs};
+ghost use Rattle.memory.specs.Frames.{memory_of, frame, pages_of, Mapped, OnlyFrame};
+ghost use Rattle.tasks.specs.Unheard.{heard_in};
+ghost use Rattle.plan.specs.Views.{memory_of as memory_in, tasks_of as tasks_in};
+ghost use Rattle.partition.specs.Block.{count_of, part_of, tasks_of, Own};
 ghost use Rattle.partition.specs.Shown.{Ran};
-ghost use Rattle.partition.specs.Steps.{ended_by};
 
 use crate::burst::burst;
-use crate::came::{Bout, Burst, End};
-use cpu::registers::Registers;
-use tasks::table;
+use crate::frames::{COUNT, TABLE, UNHEARD};
+use crate::shown::Shown;
+use crate::stretch::Stretch;
+use crate::task::{TASK, look, place, settle};
+use memory::block_mut::BlockMut;
+use memory::tables;
+use plan::view::View;
+use tasks::record::Record;
+use tasks::ring::Ring;
 
-/// Where the number of tasks stands.
-const COUNT: usize = 16384;
-
-/// Looks at task `i`: whether it begins anew, and then whether it is late.
-fn look(b: &mut [u8], i: usize, time: u64)
-    requires mapped { Mapped b.old }
-    requires below { i < 16 }
-    ensures run { run_at (frame 2 b.new) i ≡ checked (task_at (frame 2 b.old) i) time (woken rv32i (task_at (frame 2 b.old) i) i time (run_at (frame 2 b.old) i)) }
-    ensures plan { task_at (frame 2 b.new) i ≡ task_at (frame 2 b.old) i }
-    ensures only { TableOnly b.old b.new }
+/// The block of partition q of a plan at the start, whatever it held before: its memory is the plan's, its tasks are ready and
+/// new, and nothing is unheard.
+pub fn lay(b: &mut [u8], view: &View<'_>, q: u8)
+    requires size { length b.old ≡ 32768 + length (memory_in view.now q) }
+    requires whole { length b.old ≡ 32768 + 4096 * pages_of b.old }
+    requires few { pages_of b.old ≤ 1024 }
+    requires one { length (tasks_in view.now q) ≤ 1 }
+    ensures part { part_of b.new [] ≡ record { memory = memory_in view.now q; tasks = new_runs rv32i 0 (tasks_in view.now q); heard = []; shown = [] } }
+    ensures plan { tasks_of b.new ≡ tasks_in view.now q }
+    ensures own { Own b.new }
 {
-    table::look(&mut b[8192..12288], i, time);
+    fill(b, view.memory_bytes(q));
+    begin(&mut BlockMut { bytes: b }, view, q);
 }
 
-/// What became of a ready task `i` goes back into its record.
-fn leave(t: &mut [u8], i: usize, end: End, core: Registers)
-    requires size { length t.old ≡ 4096 }
-    requires below { i < 16 }
-    requires ready { is_ready (run_at t.old i).state ≡ true }
-    ensures run { run_at t.new i ≡ ended_by end (core_of core) (run_at t.old i) }
-    ensures plan { task_at t.new i ≡ task_at t.old i }
+/// A byte from outside comes, and is kept until it is heard, if there is a place for it.
+pub fn arrive(b: &mut BlockMut<'_>, byte: u8)
+    ensures part { (s : List (ℕ × ℕ)) → part_of b.new.bytes.now s ≡ hearing byte (part_of b.old.bytes.now s) }
+    ensures plan { tasks_of b.new.bytes.now ≡ tasks_of b.old.bytes.now }
+    ensures count { count_of b.new.bytes.now ≡ count_of b.old.bytes.now }
+    ensures bytes { b.new.bytes.ghost_name ≡ b.old.bytes.ghost_name }
 {
-    match end {
-        End::Ready => table::go_on(t, i, core),
-        End::Waiting => table::wait(t, i, core),
-        End::Stopped => {
-            table::go_on(t, i, core);
-            table::stop(t, i);
+    b.with_frame(UNHEARD, |frame: &mut [u8]| Ring::new(frame).arrive(byte));
+}
+
+/// Own ticks. What is shown is written behind what is shown already.
+pub fn own_ticks(b: &mut BlockMut<'_>, stretch: Stretch, shown: &mut Shown<'_>)
+    requires few { count_of b.old.bytes.now ≤ 1 }
+    requires room { shown.old.at + 9 * stretch.ticks ≤ length shown.old.bytes.now }
+    ensures ran { Ran b.old.bytes.now b.new.bytes.now shown.old shown.new stretch.from stretch.ticks }
+    ensures bytes { b.new.bytes.ghost_name ≡ b.old.bytes.ghost_name }
+{
+    if count(b) == 0 {
+        return;
+    }
+    let mut done = 0;
+    while done < stretch.ticks {
+        let left = Stretch {
+            from: stretch.from + done,
+            ticks: stretch.ticks - done,
+        };
+        done += bout(b, left, shown);
+    }
+}
+
+/// Page tables, and the memory at the start behind the control frames.
+fn fill(b: &mut [u8], memory: &[u8])
+    requires size { length b.old ≡ 32768 + length memory.now }
+    requires whole { length b.old ≡ 32768 + 4096 * pages_of b.old }
+    requires few { pages_of b.old ≤ 1024 }
+    ensures memory { memory_of b.new ≡ memory.now }
+    ensures mapped { Mapped b.new }
+{
+    tables::map(b);
+    octets::copy(b, tables::CONTROL, memory);
+}
+
+/// What stands in the control frames behind the tables at the start.
+fn begin(b: &mut BlockMut<'_>, view: &View<'_>, q: u8)
+    requires memory { memory_of b.old.bytes.now ≡ memory_in view.now q }
+    requires one { length (tasks_in view.now q) ≤ 1 }
+    ensures part { part_of b.new.bytes.now [] ≡ record { memory = memory_in view.now q; tasks = new_runs rv32i 0 (tasks_in view.now q); heard = []; shown = [] } }
+    ensures plan { tasks_of b.new.bytes.now ≡ tasks_in view.now q }
+    ensures few { count_of b.new.bytes.now ≤ 1 }
+    ensures bytes { b.new.bytes.ghost_name ≡ b.old.bytes.ghost_name }
+{
+    clear(b);
+    match view.task(q, 0) {
+        Some(task) => {
+            place(b, task);
+            set_count(b, 1);
         }
+        None => set_count(b, 0),
     }
 }
 
-/// The same, in a block.
-fn settle(b: &mut [u8], i: usize, end: End, core: Registers)
-    requires mapped { Mapped b.old }
-    requires below { i < 16 }
-    requires ready { is_ready (run_at (frame 2 b.old) i).state ≡ true }
-    ensures run { run_at (frame 2 b.new) i ≡ ended_by end (core_of core) (run_at (frame 2 b.old) i) }
-    ensures plan { task_at (frame 2 b.new) i ≡ task_at (frame 2 b.old) i }
-    ensures only { TableOnly b.old b.new }
+/// Nothing is unheard.
+fn clear(b: &mut BlockMut<'_>)
+    ensures heard { heard_in (frame 3 b.new.bytes.now) ≡ [] }
+    ensures only { OnlyFrame 3 b.old.bytes.now b.new.bytes.now }
+    ensures bytes { b.new.bytes.ghost_name ≡ b.old.bytes.ghost_name }
 {
-    leave(&mut b[8192..12288], i, end, core);
+    b.with_frame(UNHEARD, |frame: &mut [u8]| Ring::new(frame).clear());
 }
 
-/// Some own ticks from `time` on, at most n: the task is looked at, and if it is ready it goes, as long as looking at it again
-/// would change nothing.
-fn bout(b: &mut [u8], time: u64, n: u64, shown: &mut [u8], at: usize) -> Bout
-    requires mapped { Mapped b.old }
-    requires one { count_of b.old ≡ 1 }
-    requires some { 0 < n }
-    requires clock { time + n ≤ 2 ^ 40 }
-    requires room { at + 9 * n ≤ length shown.old }
-    ensures ran { Ran b.old b.new shown.old shown.new at result.at time result.ticks }
-    ensures one { count_of b.new ≡ 1 }
-    ensures some { (0 < result.ticks) × (result.ticks ≤ n) }
+/// So many tasks.
+fn set_count(b: &mut BlockMut<'_>, n: u8)
+    ensures value { count_of b.new.bytes.now ≡ n }
+    ensures only { OnlyFrame 4 b.old.bytes.now b.new.bytes.now }
+    ensures bytes { b.new.bytes.ghost_name ≡ b.old.bytes.ghost_name }
 {
-    look(b, 0, time);
-    let ticks = table::until(&b[8192..12288], 0, time + 1).min(n - 1) + 1;
-    if !table::is_ready(&b[8192..12288], 0) {
-        return Bout { ticks, at };
-    }
-    let mut core = table::registers(&b[8192..12288], 0);
-    let done = burst(b, &mut core, time, ticks, shown, at);
-    settle(b, 0, done.end, core);
-    Bout {
-        ticks: done.ticks,
-        at: done.at,
-    }
+    b.with_frame(COUNT, |frame: &mut [u8]| octets::write(frame, 0, n));
 }
 
 /// How many tasks the partition has.
-fn count(b: &[u8]) -> u8
-    requires mapped { Mapped b.now }
-    ensures value { result ≡ count_of b.now }
+fn count(b: &BlockMut<'_>) -> u8
+    ensures value { result ≡ count_of b.now.bytes.now }
 {
-    octets::read_u8(b, COUNT)
+    octets::read(b.block().frame(COUNT), 0)
 }
 
-/// n own ticks from `time` on. What is shown is written into the slice from `at` on; comes back how far it reaches.
-pub fn own_ticks(b: &mut [u8], time: u64, n: u64, shown: &mut [u8], at: usize) -> usize
-    requires own { Own b.old }
-    requires clock { time + n ≤ 2 ^ 40 }
-    requires room { at + 9 * n ≤ length shown.old }
-    ensures ran { Ran b.old b.new shown.old shown.new at result time n }
+/// Some own ticks, of these: the task is looked at, and if it is ready it goes, as long as looking at it again would change
+/// nothing. Comes back how many.
+fn bout(b: &mut BlockMut<'_>, stretch: Stretch, shown: &mut Shown<'_>) -> u64
+    requires one { count_of b.old.bytes.now ≡ 1 }
+    requires some { 0 < stretch.ticks }
+    requires room { shown.old.at + 9 * stretch.ticks ≤ length shown.old.bytes.now }
+    ensures ran { Ran b.old.bytes.now b.new.bytes.now shown.old shown.new stretch.from result }
+    ensures some { (0 < result) × (result ≤ stretch.ticks) }
+    ensures bytes { b.new.bytes.ghost_name ≡ b.old.bytes.ghost_name }
 {
-    if count(b) == 0 {
-        return at;
+    look(b, stretch.from);
+    let record = Record::new(b.block().frame(TABLE), TASK);
+    let ticks = record.until(stretch.from + 1).min(stretch.ticks - 1) + 1;
+    if !record.is_ready() {
+        return ticks;
     }
-    let mut done = 0;
-    let mut end = at;
-    while done < n {
-        let bout = bout(b, time + done, n - done, shown, end);
-        done += bout.ticks;
-        end = bout.at;
-    }
-    end
+    let mut core = record.registers();
+    let left = Stretch {
+        from: stretch.from,
+        ticks,
+    };
+    let done = burst(b, &mut core, left, shown);
+    settle(b, done.end, core);
+    done.ticks
 }

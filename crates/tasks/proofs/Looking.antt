@@ -22,6 +22,14 @@ not_ready Ready h = absurd (h refl)
 not_ready Waiting h = refl
 not_ready Stopped h = refl
 
+-- Whether a state is ready, by the state that it is.
+pub ready_true : (s : State) → Ready ≡ s → true ≡ is_ready s
+unfolding is_ready
+ready_true s e = ap is_ready e
+
+pub ready_false : (s t : State) → (t ≡ Ready → ⊥) → t ≡ s → false ≡ is_ready s
+ready_false s t h e = sym (not_ready s (λ r. h (e ∙ r)))
+
 pub is_waiting_lem : (s : State) → s ≡ Waiting → is_waiting s ≡ true
 unfolding is_waiting
 is_waiting_lem s e = ap is_waiting e

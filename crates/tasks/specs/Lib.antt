@@ -1,2 +1,4 @@
+pub mod Codes
+pub mod Lent
 pub mod Records
 pub mod Unheard

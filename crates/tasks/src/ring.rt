@@ -3,9 +3,7 @@
 //! from 1024 on.
 ghost use Rattle.std.specs.Prelude.{◌≡◌, ◌<◌, ◌≤◌, [], ◌∷◌, ◌++◌, length, drop, if◌then◌else◌, MatchOption, nat_lt};
 ghost use Rattle.model.specs.Tick.{first_heard};
-ghost use Rattle.tasks.specs.Unheard.{head_in, count_in, place_of, heard_in};
-
-use octets::{read_u32, write_u32};
+ghost use Rattle.tasks.specs.Unheard.{head_in, count_in, heard_in};
 
 const COUNT: usize = 4;
 
@@ -13,59 +11,76 @@ const PLACES: usize = 1024;
 
 const FIRST: usize = 1024;
 
-/// Where the first byte is, counted from the first place, round and round.
-fn head(r: &[u8]) -> usize
-    requires size { length r.now ≡ 4096 }
-    ensures value { result ≡ head_in r.now }
-    ensures below { result < 1024 }
-{
-    read_u32(r, 0) as usize % PLACES
+/// The ring in a lent frame.
+// Stays a bounded row: no heap on the kernel's side.
+#[derive(Drop)]
+pub struct Ring<'a> {
+    pub frame: &'a mut [u8],
+    ghost size: { length frame.now ≡ 4096 },
 }
 
-/// How many bytes there are.
-fn count(r: &[u8]) -> usize
-    requires size { length r.now ≡ 4096 }
-    ensures value { result ≡ count_in r.now }
-    ensures most { result ≤ 1024 }
-{
-    (read_u32(r, COUNT) as usize).min(PLACES)
-}
-
-/// None is left.
-pub fn clear(r: &mut [u8])
-    requires size { length r.old ≡ 4096 }
-    ensures heard { heard_in r.new ≡ [] }
-{
-    write_u32(r, COUNT, 0);
-}
-
-/// One more has come; it is lost if there are as many as are kept.
-pub fn arrive(r: &mut [u8], byte: u8)
-    requires size { length r.old ≡ 4096 }
-    ensures heard { heard_in r.new ≡ (if nat_lt (length (heard_in r.old)) 1024 then heard_in r.old ++ byte ∷ [] else heard_in r.old) }
-{
-    let many = count(r);
-    if many == PLACES {
-        return;
+impl<'a> Ring<'a> {
+    /// The ring in this frame.
+    pub fn new(frame: &'a mut [u8]) -> Ring<'a>
+        requires size { length frame.old ≡ 4096 }
+        ensures frame { result.frame.now ≡ frame.old }
+        ensures lent { result.frame.ghost_name ≡ frame.entry.ghost_name }
+    {
+        Ring { frame }
     }
-    let place = FIRST + (head(r) + many) % PLACES;
-    r[place] = byte;
-    write_u32(r, COUNT, many as u32 + 1);
-}
 
-/// The byte that came first, which is then heard; `None` if there is none.
-pub fn hear(r: &mut [u8]) -> Option<u8>
-    requires size { length r.old ≡ 4096 }
-    ensures value { MatchOption result (first_heard (heard_in r.old) ≡ 4294967295) (λ b. first_heard (heard_in r.old) ≡ b) }
-    ensures heard { heard_in r.new ≡ drop 1 (heard_in r.old) }
-{
-    let many = count(r);
-    if many == 0 {
-        return None;
+    /// Where the first byte is, counted from the first place, round and round.
+    fn head(&self) -> usize
+        ensures value { result ≡ head_in self.now.frame.now }
+        ensures below { result < 1024 }
+    {
+        octets::read::<u32>(self.frame, 0) as usize % PLACES
     }
-    let first = head(r);
-    let byte = r[FIRST + first];
-    write_u32(r, 0, ((first + 1) % PLACES) as u32);
-    write_u32(r, COUNT, many as u32 - 1);
-    Some(byte)
+
+    /// How many bytes there are.
+    fn count(&self) -> usize
+        ensures value { result ≡ count_in self.now.frame.now }
+        ensures most { result ≤ 1024 }
+    {
+        (octets::read::<u32>(self.frame, COUNT) as usize).min(PLACES)
+    }
+
+    /// None is left.
+    pub fn clear(&mut self)
+        ensures heard { heard_in self.new.frame.now ≡ [] }
+        ensures frame { self.new.frame.ghost_name ≡ self.old.frame.ghost_name }
+    {
+        octets::write(self.frame, COUNT, 0u32);
+    }
+
+    /// One more has come; it is lost if there are as many as are kept.
+    pub fn arrive(&mut self, byte: u8)
+        ensures heard { heard_in self.new.frame.now ≡ (if nat_lt (length (heard_in self.old.frame.now)) 1024 then heard_in self.old.frame.now ++ byte ∷ [] else heard_in self.old.frame.now) }
+        ensures frame { self.new.frame.ghost_name ≡ self.old.frame.ghost_name }
+    {
+        let many = self.count();
+        if many == PLACES {
+            return;
+        }
+        let place = FIRST + (self.head() + many) % PLACES;
+        self.frame[place] = byte;
+        octets::write(self.frame, COUNT, many as u32 + 1);
+    }
+
+    /// The byte that came first, which is then heard; `None` if there is none.
+    pub fn hear(&mut self) -> Option<u8>
+        ensures value { MatchOption result (first_heard (heard_in self.old.frame.now) ≡ 4294967295) (λ b. first_heard (heard_in self.old.frame.now) ≡ b) }
+        ensures heard { heard_in self.new.frame.now ≡ drop 1 (heard_in self.old.frame.now) }
+        ensures frame { self.new.frame.ghost_name ≡ self.old.frame.ghost_name }
+    {
+        let many = self.count();
+        if many == 0 {
+            return None;
+        }
+        let first = self.head();
+        let byte = self.frame[FIRST + first];
+        octets::write(self.frame, 0, ((first + 1) % PLACES) as u32);
+        octets::write(self.frame, COUNT, many as u32 - 1);
+        Some(byte)
+    }
 }

@@ -1,77 +1,49 @@
-use Rattle.std.proofs.Common.{sym, ap, ◌∙◌}
+use Rattle.std.proofs.Common.{◌≡◌, ℕ, sym, ap, ◌∙◌, ⊎_elim}
+use Rattle.cpu.specs.declared.call.Call.TheVariants.{Send, Take, Unknown}
 use Rattle.cpu.specs.Held.{core_of}
 use Rattle.cpu.specs.Rv32i.{answered}
-use Rattle.partition.proofs.Steps.{shows, waiting, clocks, sent, taken, unknown, hears, kept_self}
+use Rattle.partition.proofs.Kept.{table_kept}
+use Rattle.partition.proofs.Steps.{shows, waiting, clocks, sent, taken, unknown, hears}
 use Rattle.partition.proofs.step.call.Goals as goal
 
-pub returns-in-Show : goal.returns-in-Show
-returns-in-Show c =
-    let b = c.args.b.now in
+pub returns-in-Show-clause-part : goal.returns-in-Show-clause-part
+returns-in-Show-clause-part c =
+    let b = c.args.b.now.bytes.now in
     let k = core_of c.args.core.now in
-    record {
-      part = shows b k (core_of c.answer.new.self) c.args.time c.in-Show.byte (sym c.in-Show.ensures.value) c.answer.ensures.after;
-      still = tt;
-      kept = kept_self b c.requires.mapped;
-    }
+    shows b k (core_of c.answer.new.self) c.args.time c.in-Show.byte (sym c.in-Show.ensures.value) c.answer.ensures.after
 
-pub returns-in-Wait : goal.returns-in-Wait
-returns-in-Wait c =
-    let b = c.args.b.now in
+pub returns-in-Wait-clause-part : goal.returns-in-Wait-clause-part
+returns-in-Wait-clause-part c =
+    let b = c.args.b.now.bytes.now in
     let k = core_of c.args.core.now in
-    record {
-      part = waiting b k (core_of c.answer-in-Wait.new.self) c.args.time (sym c.in-Wait.ensures.value) c.answer-in-Wait.ensures.after;
-      still = tt;
-      kept = kept_self b c.requires.mapped;
-    }
+    waiting b k (core_of c.answer-in-Wait.new.self) c.args.time (sym c.in-Wait.ensures.value) c.answer-in-Wait.ensures.after
 
-pub returns-in-Clock : goal.returns-in-Clock
-returns-in-Clock c =
-    let b = c.args.b.now in
+pub returns-in-Clock-clause-part : goal.returns-in-Clock-clause-part
+returns-in-Clock-clause-part c =
+    let b = c.args.b.now.bytes.now in
     let k = core_of c.args.core.now in
-    record {
-      part = clocks b k (core_of c.answer-in-Clock.new.self) c.args.time (sym c.in-Clock.ensures.value) c.answer-in-Clock.ensures.after;
-      still = tt;
-      kept = kept_self b c.requires.mapped;
-    }
+    clocks b k (core_of c.answer-in-Clock.new.self) c.args.time (sym c.in-Clock.ensures.value) c.answer-in-Clock.ensures.after
 
-pub returns-in-Send : goal.returns-in-Send
-returns-in-Send c =
-    let b = c.args.b.now in
+pub returns-in-Send-clause-part : goal.returns-in-Send-clause-part
+returns-in-Send-clause-part c =
+    let b = c.args.b.now.bytes.now in
     let k = core_of c.args.core.now in
-    record {
-      part = sent b k (core_of c.answer-in-Send.new.self) c.args.time _ _ _ (sym c.in-Send.ensures.value) c.answer-in-Send.ensures.after;
-      still = tt;
-      kept = kept_self b c.requires.mapped;
-    }
+    let d = core_of c.answer-in-Send.new.self in
+    let g = c.answer-in-Send.ensures.after in
+    let is = sym c.call.ensures.value in
+    ⊎_elim
+    (λ (w : (n : ℕ) × (a : ℕ) × (l : ℕ) × (c.call.result ≡ Send n a l)). sent b k d c.args.time w.0 w.1 w.2 (is ∙ w.3) g)
+    (⊎_elim
+    (λ (w : (n : ℕ) × (a : ℕ) × (c.call.result ≡ Take n a)). taken b k d c.args.time w.0 w.1 (is ∙ w.2) g)
+    (λ (w : c.call.result ≡ Unknown). unknown b k d c.args.time (is ∙ w) g))
+    c.in-Send.is
 
-pub returns-in-Take : goal.returns-in-Take
-returns-in-Take c =
-    let b = c.args.b.now in
+pub returns-in-Hear-clause-part : goal.returns-in-Hear-clause-part
+returns-in-Hear-clause-part c =
+    let b = c.args.b.now.bytes.now in
     let k = core_of c.args.core.now in
-    record {
-      part = taken b k (core_of c.answer-in-Take.new.self) c.args.time _ _ (sym c.in-Take.ensures.value) c.answer-in-Take.ensures.after;
-      still = tt;
-      kept = kept_self b c.requires.mapped;
-    }
+    hears b k (core_of c.answer-in-Hear.new.self) c.args.time c.hear-answer.new.b.bytes.now (sym c.in-Hear.ensures.value)
+    (c.answer-in-Hear.ensures.after ∙ ap (answered k) c.hear-answer.ensures.value) c.hear-answer.ensures.only.memory c.hear-answer.ensures.heard
 
-pub returns-in-Unknown : goal.returns-in-Unknown
-returns-in-Unknown c =
-    let b = c.args.b.now in
-    let k = core_of c.args.core.now in
-    record {
-      part = unknown b k (core_of c.answer-in-Unknown.new.self) c.args.time (sym c.in-Unknown.ensures.value) c.answer-in-Unknown.ensures.after;
-      still = tt;
-      kept = kept_self b c.requires.mapped;
-    }
-
-pub returns-in-Hear : goal.returns-in-Hear
-returns-in-Hear c =
-    let b = c.args.b.now in
-    let k = core_of c.args.core.now in
-    record {
-      part =
-          hears b k (core_of c.answer-in-Hear.new.self) c.args.time c.hear-answer.new.b (sym c.in-Hear.ensures.value)
-          (c.answer-in-Hear.ensures.after ∙ ap (answered k) c.hear-answer.ensures.value) c.hear-answer.ensures.memory c.hear-answer.ensures.heard;
-      still = tt;
-      kept = c.hear-answer.ensures.kept;
-    }
+pub returns-in-Hear-clause-kept : goal.returns-in-Hear-clause-kept
+returns-in-Hear-clause-kept c = table_kept c.hear-answer.ensures.only
