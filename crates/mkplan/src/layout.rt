@@ -11,10 +11,7 @@ use plantext::Plan;
 use std::alloc::{AllocError, Global};
 
 /// The partitions as they are handed over: the tasks of each, and its memory.
-fn parts_of<'a>(
-    heap: Global,
-    partitions: &'a [Loaded],
-) -> Result<Vec<DraftPart<'a>>, AllocError>
+fn parts_of<'a>(heap: Global, partitions: &'a [Loaded]) -> Result<Vec<DraftPart<'a>>, AllocError>
     ensures len { IfOk result (λ v. vec_len v ≡ length partitions.now) }
 {
     partitions
