@@ -1,5 +1,5 @@
 //! What each kind of line says.
-ghost use Rattle.std.specs.Prelude.{◌≡◌, ℕ, ◌+◌, ◌*◌, ◌<◌, ◌≤◌, string_bytes, IfOk, Some, None, vec_len};
+ghost use Rattle.std.specs.Prelude.{◌≡◌, ℕ, ◌+◌, ◌*◌, ◌<◌, ◌≤◌, IfOk, Some, None, vec_len};
 ghost use Rattle.plantext.specs.Numerals.{numeral};
 
 use crate::faults::{Fault, FileFault, LineFault, NameFault, PartFault};
@@ -9,14 +9,13 @@ use crate::plans::{Memory, Plan};
 use crate::words::{Kind, Part, Word, named};
 use model::plan::{Channel, Task, Window};
 use std::alloc::Global;
-use std::convert::AsStr;
 
 /// A line that says something: its number, counted from 1, its kind, and the words behind the first.
 #[derive(Clone, Copy)]
 pub struct Line<'a> {
     pub number: usize,
     pub kind: Kind,
-    pub rest: &'a [Word],
+    pub rest: &'a [Word<'a>],
 }
 
 impl<'a> Line<'a> {
@@ -24,7 +23,7 @@ impl<'a> Line<'a> {
     pub fn name<T>(self, others: &[Named<T>]) -> Result<Name, Fault> {
         let word = self.rest.first().ok_or(NameFault::Missing(self.kind))?;
         let text = checked(word)?;
-        match find(others, word.as_str()) {
+        match find(others, word.text) {
             Some(i) => Err(NameFault::Taken {
                 kind: self.kind,
                 name: text,
@@ -69,10 +68,10 @@ impl<'a> Line<'a> {
 
 /// The number that a word says for a part of this range.
 fn number_for(part: Part, word: &Word, low: u32, high: u32) -> Result<u32, Fault>
-    ensures value { IfOk result (λ n. numeral (string_bytes word.now.0) ≡ Some n) }
+    ensures value { IfOk result (λ n. numeral word.now.text.now ≡ Some n) }
     ensures bound { IfOk result (λ n. (low ≤ n) × (n ≤ high)) }
 {
-    match number_within(word.as_str(), low, high) {
+    match number_within(word.text, low, high) {
         Ok(n) => Ok(n),
         Err(NumberError::NoNumber) => Err(PartFault::NoNumber(word.copy()?).into()),
         Err(NumberError::OutOfRange) => Err(PartFault::OutOfRange {
@@ -89,13 +88,13 @@ fn number_for(part: Part, word: &Word, low: u32, high: u32) -> Result<u32, Fault
 #[derive(Clone, Copy)]
 struct Said<'a> {
     kind: Kind,
-    first: &'a Word,
-    behind: Option<&'a Word>,
+    first: &'a Word<'a>,
+    behind: Option<&'a Word<'a>>,
 }
 
 impl<'a> Said<'a> {
     fn part(self) -> Option<Part> {
-        named(self.first.as_str())
+        named(self.first.text)
     }
 
     /// The fault of a word that begins no part of such a line.

@@ -37,6 +37,7 @@ impl<T> AsStr for Named<T> {
 }
 
 /// The first of the names that is this word.
+// Stays a search: there are at most 128 names, and a map would need a second copy of each.
 pub fn find<N: AsStr>(names: &[N], word: &str) -> Option<usize>
     ensures value { First N.text names.now word.now result }
 {
@@ -60,7 +61,7 @@ pub fn is_name(word: &str) -> bool {
 /// The text of a word, if it is a name.
 pub fn checked(word: &Word) -> Result<String, Fault> {
     let text = word.copy()?;
-    if is_name(word.as_str()) {
+    if is_name(word.text) {
         Ok(text)
     } else {
         Err(NameFault::NoName(text).into())

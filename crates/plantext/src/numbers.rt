@@ -16,7 +16,7 @@ fn digits(word: &[u8], base: u32) -> Option<u64>
     ensures value { result ≡ capped (says word.now base 0 true) }
 {
     let mut total: u64 = 0;
-    // A flag beside the total, and no Option: the total stays while a digit is wanted.
+    // Stays a flag beside the total: an Option would lose the total while a digit is wanted.
     let mut wanted = true;
     for b in word {
         if *b == b'_' {
@@ -34,6 +34,7 @@ fn digits(word: &[u8], base: u32) -> Option<u64>
 }
 
 /// The number that a word says, or 2^32 if it says more.
+// Stays a number where it says more: an error would only be told apart again, and no range goes so far.
 pub fn number(word: &str) -> Option<u64>
     ensures value { result ≡ capped (numeral word.now) }
 {
@@ -44,6 +45,7 @@ pub fn number(word: &str) -> Option<u64>
 }
 
 /// The number that a word says, if it is `low` to `high`.
+// Stays two numbers, as in `clamp`: the promise and the message would take a RangeInclusive apart again.
 pub fn number_within(word: &str, low: u32, high: u32) -> Result<u32, NumberError>
     ensures value { result ≡ judged (numeral word.now) low high }
 {

@@ -6,7 +6,6 @@ use crate::names::{Named, checked, find};
 use crate::words::Word;
 use model::plan::{Channel, Task, Window};
 use std::alloc::Global;
-use std::convert::AsStr;
 
 /// What a partition's memory holds.
 #[derive(Drop)]
@@ -54,7 +53,7 @@ impl Plan {
     {
         let name = checked(word)?;
         let partitions = self.partitions.as_slice();
-        if let Some(i) = find(partitions, word.as_str()) {
+        if let Some(i) = find(partitions, word.text) {
             return Ok(i as u8);
         }
         if partitions.is_empty() {

@@ -5,7 +5,6 @@ use crate::names::Named;
 use crate::plans::{Partition, Plan};
 use crate::words::{Kind, named, words_of};
 use std::alloc::Global;
-use std::convert::AsStr;
 
 /// What the lines up to the first fault say, and that fault. A partition's file may have one too: it stands before this.
 #[derive(Drop)]
@@ -97,7 +96,7 @@ impl Reader {
         let [first, rest @ ..] = words.as_slice() else {
             return Ok(());
         };
-        let Some(kind) = named(first.as_str()) else {
+        let Some(kind) = named(first.text) else {
             return Err(LineFault::UnknownWord(first.copy()?).into());
         };
         self.plan.line(Line { number, kind, rest }, self.last)?;

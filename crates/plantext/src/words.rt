@@ -1,10 +1,9 @@
 //! The words of the language, and a line cut into words.
-ghost use Rattle.std.specs.Prelude.{string_bytes};
+ghost use Rattle.std.specs.Prelude.{◌<◌, All, IfNone, IsTrue};
 
 use crate::faults::{Fault, LineFault};
 use std::alloc::{AllocError, Global};
-use std::convert::AsStr;
-use std::{fmt, mem};
+use std::{fmt, str};
 
 /// How a word of the language is written: the word, and what stands behind it.
 #[derive(Clone, Copy)]
@@ -28,6 +27,7 @@ pub trait Vocabulary: Copy + 'static {
 }
 
 /// The one that is written with this word.
+// One function where FromStr would need an impl for each.
 pub fn named<V: Vocabulary>(word: &str) -> Option<V> {
     V::all()
         .iter()
@@ -136,43 +136,45 @@ impl Vocabulary for Part {
     }
 }
 
-/// A word of a text.
-#[derive(Drop)]
-pub struct Word(String);
+/// A word of a text, and the heap for copies of it.
+#[derive(Clone, Copy)]
+pub struct Word<'a> {
+    heap: Global,
+    pub text: &'a str,
+}
 
-impl AsStr for Word {
-    ghost text = { λ w. string_bytes w.0 };
-
-    fn as_str(&self) -> &str {
-        self.0.as_str()
+impl Word<'_> {
+    /// The word again, for what is said of it.
+    pub fn copy(self) -> Result<String, AllocError> {
+        String::from_str(self.heap, self.text)
     }
 }
 
-impl Word {
-    /// The word again, for what is said of it.
-    pub fn copy(&self) -> Result<String, AllocError> {
-        self.0.clone()
+/// Whether it is a blank or printable ASCII.
+fn is_text(b: u8) -> bool
+    ensures ascii { IsTrue result → b < 128 }
+{
+    matches!(b, b' ' | b'\t' | b'\r' | 0x21..=0x7e)
+}
+
+/// The first byte that is no text.
+fn no_text(bytes: &[u8]) -> Option<u8>
+    ensures ascii { IfNone result (All (λ b. b < 128) bytes.now) }
+{
+    bytes.iter().copied().find(|b| !is_text(*b))
+}
+
+/// What a line says, up to its comment.
+fn said(line: &[u8]) -> Result<&str, LineFault> {
+    let bytes = line.split(|b| *b == b'#').next().unwrap_or(line);
+    match no_text(bytes) {
+        Some(b) => Err(LineFault::NoText(b)),
+        None => Ok(str::from_utf8(bytes).unwrap()),
     }
 }
 
 /// The words of a line, up to its comment.
-pub fn words_of(heap: Global, line: &[u8]) -> Result<Vec<Word>, Fault> {
-    let mut words = Vec::new(heap);
-    let mut word = String::new(heap);
-    for b in line {
-        match *b {
-            b'#' => break,
-            b' ' | b'\t' | b'\r' => {
-                if !word.is_empty() {
-                    words.push(Word(mem::replace(&mut word, String::new(heap))))?;
-                }
-            }
-            0x21..=0x7e => word.push(char::from(*b))?,
-            other => return Err(LineFault::NoText(other).into()),
-        }
-    }
-    if !word.is_empty() {
-        words.push(Word(word))?;
-    }
-    Ok(words)
+pub fn words_of(heap: Global, line: &[u8]) -> Result<Vec<Word<'_>>, Fault> {
+    let words = said(line)?.split_ascii_whitespace();
+    Ok(words.map(|text| Word { heap, text }).collect(heap)?)
 }
