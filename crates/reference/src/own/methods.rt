@@ -53,7 +53,7 @@ impl OwnTick<'_> {
         ensures same { Lends self.old self.new }
     {
         let (i, run) = (self.i, self.run);
-        match run.core().call() {
+        match run.call() {
             Call::Show(b) => {
                 self.part.put(i, run.answered(Answer::Value(0)));
                 Some(b)
