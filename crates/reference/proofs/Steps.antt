@@ -12,7 +12,6 @@ use Rattle.model.proofs.Priority.{first_ready_lem}
 use Rattle.model.specs.Tick.{Step, Sight, none, changed, changing, with_tasks, update, looked, first_ready, does, instruction, part_tick, acted}
 use Rattle.reference.specs.declared.part.Partition.{Partition}
 use Rattle.reference.specs.declared.queue.Queue.{Queue}
-use Rattle.reference.specs.declared.task.Running.{Running}
 use Rattle.reference.specs.Parts.{run_in, task_of, runs_of, tasks_of, heard_of, part_of}
 use Rattle.reference.specs.Own.{Did, said, plans_of, channels_of}
 use Rattle.reference.proofs.Nths.{nth_some_below, nth-map_some}

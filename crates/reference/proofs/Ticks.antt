@@ -12,8 +12,7 @@ use Rattle.model.specs.Tick.{called as called_by}
 use Rattle.reference.specs.declared.own.OwnTick.{OwnTick}
 use Rattle.reference.specs.declared.part.Partition.{Partition}
 use Rattle.reference.specs.declared.queue.Queue.{Queue}
-use Rattle.reference.specs.declared.task.Running.{Running}
-use Rattle.reference.specs.Parts.{run_of, runs_of, tasks_of, task_of, heard_of, part_of}
+use Rattle.reference.specs.Parts.{run_of, runs_of, heard_of, part_of}
 use Rattle.reference.specs.Own.{Did, Exchanged, Goes, said, seen_of, channels_of}
 use Rattle.reference.proofs.Changes.{run_changed}
 use Rattle.reference.proofs.Steps.{did, did_quiet}

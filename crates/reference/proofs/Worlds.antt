@@ -11,7 +11,7 @@ use Rattle.model.specs.World.{Part, World, Sent, no_part, part, messages}
 use Rattle.model.specs.Tick.{hearing, with_heard, with_tasks, most_unheard, came, work, applied, part_tick, looked, first_ready, instruction, changed, seen}
 use Rattle.reference.specs.declared.part.Partition.{Partition}
 use Rattle.reference.specs.declared.queue.Queue.{Queue}
-use Rattle.reference.specs.Parts.{run_of, runs_of, tasks_of, heard_of, part_of}
+use Rattle.reference.specs.Parts.{runs_of, tasks_of, heard_of, part_of}
 use Rattle.reference.specs.Own.{Did, said, plans_of, channels_of, seen_of}
 use Rattle.reference.specs.View.{plan_in, parts_of, world_of, showing}
 use Rattle.reference.proofs.Nths.{set_same, get_or-map_some}

@@ -37,6 +37,7 @@ pub(crate) fn own_tick(
     ensures tasks { tasks_of part.new ≡ tasks_of part.old }
 {
     part.look(time);
+    // Stays `let .. else`: so the project writes the task that goes first.
     let Some(i) = part.first_ready() else {
         return None;
     };

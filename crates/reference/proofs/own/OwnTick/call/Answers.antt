@@ -1,4 +1,4 @@
-use Rattle.std.proofs.Common.{◌%◌, map, set, drop, Some, sym, refl, ap, ◌∙◌}
+use Rattle.std.proofs.Common.{◌%◌, set, drop, Some, sym, refl, ap, ◌∙◌}
 use Rattle.cpu.specs.Rv32i.{answered, called}
 use Rattle.cpu.specs.declared.call.Answer.TheVariants.{Value}
 use Rattle.cpu.specs.declared.call.Call.TheVariants.{Wait, Clock, Send, Take, Hear, Unknown}
@@ -7,7 +7,7 @@ use Rattle.cpu.specs.Core.{Core}
 use Rattle.model.specs.World.{Run}
 use Rattle.model.specs.Tick.{showing, with_heard, refused, goes_on, waits, first_heard, no, changed}
 use Rattle.model.specs.Tick.{called as called_by}
-use Rattle.reference.specs.Parts.{run_of, run_in, runs_of, heard_of, part_of}
+use Rattle.reference.specs.Parts.{run_of, runs_of, heard_of, part_of}
 use Rattle.reference.specs.Own.{said, channels_of}
 use Rattle.reference.proofs.Steps.{did}
 use Rattle.reference.proofs.Ticks.{core, calling, quiet, goes_so, goes_with, exchanged}

@@ -1,4 +1,4 @@
-use Rattle.std.proofs.Common.{◌≡◌, ◌<◌, length, map, ap, sym, ◌∙◌, subst, zero-add, arith}
+use Rattle.std.proofs.Common.{◌≡◌, ◌<◌, length, map, sym, ◌∙◌, subst, zero-add, arith}
 use Rattle.std.proofs.lemmas.List.{length-map}
 use Rattle.cpu.specs.Core.{fresh}
 use Rattle.cpu.specs.Rv32i.{rv32i}

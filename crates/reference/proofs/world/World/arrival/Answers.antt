@@ -1,8 +1,7 @@
-use Rattle.std.proofs.Common.{[], map, get_or}
+use Rattle.std.proofs.Common.{[], get_or}
 use Rattle.std.proofs.lemmas.Option.{slice_get-get_or}
 use Rattle.reference.specs.Memories.{memories_in}
 use Rattle.reference.specs.Own.{channels_of, plans_of}
-use Rattle.reference.specs.Parts.{tasks_of, task_of}
 use Rattle.reference.specs.View.{plan_in, world_of}
 use Rattle.reference.proofs.Worlds.{came_there, came_nowhere, plan_kept}
 use Rattle.reference.proofs.world.World.arrival.Goals as goal
