@@ -14,7 +14,8 @@ use Rattle.reference.specs.declared.part.Partition.{Partition}
 use Rattle.reference.specs.declared.queue.Queue.{Queue}
 use Rattle.reference.specs.Parts.{run_in, task_of, runs_of, tasks_of, heard_of, part_of}
 use Rattle.reference.specs.Own.{Did, said, plans_of, channels_of}
-use Rattle.reference.proofs.Nths.{nth_some_below, nth-map_some}
+use Rattle.std.proofs.lemmas.Option.{slice_get_within}
+use Rattle.reference.proofs.Nths.{nth-map_some}
 
 module _ (step : List (ℕ × ℕ) → Step Core) (t : ℕ) (x y : Partition) (m : List ℕ) (h : List ℕ) (i : ℕ) (f : Run Core → Run Core) (cs ds : List Queue) (r : Option ℕ) where
   -- One task of x was changed by f, and the partition is y.
@@ -105,7 +106,7 @@ module _ (y : Partition) (i : ℕ) (e : first_ready (tasks_of y) 0 (runs_of y) �
 
   pub first_there : i < length (tasks_of y)
   unfolding tasks_of runs_of
-  first_there = omega (arith, nth_some_below _ i Ready goes_first.ready, length-map (runs_of y) (λ (r : Run Core). r.state), length-map y.tasks.items run_in, length-map y.tasks.items task_of)
+  first_there = omega (arith, slice_get_within _ i Ready goes_first.ready, length-map (runs_of y) (λ (r : Run Core). r.state), length-map y.tasks.items run_in, length-map y.tasks.items task_of)
 
   pub first_is_ready : (r : Run Core) → slice_get (runs_of y) i ≡ Some r → r.state ≡ Ready
   first_is_ready r n =

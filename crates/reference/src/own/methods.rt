@@ -14,6 +14,7 @@ use cpu::access::{finish, read, write};
 use cpu::call::{Answer, Call};
 use cpu::effect::Effect;
 
+// That the same stays lent is said of each method: a ghost field speaks of one value, and not of before and after.
 impl OwnTick<'_> {
     /// The partition sends bytes of its memory into a channel.
     fn send(&mut self, channel: u32, address: u32, length: u32) -> Answer
