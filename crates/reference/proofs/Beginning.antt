@@ -1,7 +1,7 @@
 -- How the world begins.
 use Rattle.std.proofs.Common.{◌≡◌, ℕ, zero, suc, ◌+◌, ◌<◌, ◌≤◌, ◌≢◌, List, [], ◌∷◌, map, length, get_or, set, replicate, Some, sym, refl, ap, ◌∙◌, subst, ⊎_elim, add-zero, add-suc, suc-add, zero-add, arith}
 use Rattle.std.proofs.lemmas.Bool.{cases_eq}
-use Rattle.reference.proofs.Nths.{nth_some_below}
+use Rattle.std.proofs.lemmas.Option.{slice_get_within}
 use Rattle.std.specs.List.{slice_get}
 use Rattle.cpu.specs.Rv32i.{rv32i}
 use Rattle.model.specs.declared.plan.Window.{Window}
@@ -63,4 +63,4 @@ module _ {X : Type 0} where
       (cases_eq j q)
 
   pub each_all : (P : X → Type 0) (xs : List X) (q : ℕ) → length xs ≤ q → ((j : ℕ) (x : X) → j < q → slice_get xs j ≡ Some x → P x) → (j : ℕ) (x : X) → slice_get xs j ≡ Some x → P x
-  each_all P xs q l h j x e = h j x (omega (arith, nth_some_below xs j x e)) e
+  each_all P xs q l h j x e = h j x (omega (arith, slice_get_within xs j x e)) e

@@ -14,7 +14,7 @@ use Rattle.reference.specs.declared.queue.Queue.{Queue}
 use Rattle.reference.specs.Letters.{sents_of, sight_of, Exchange, refusing, posting, collecting, collecting_first}
 use Rattle.reference.specs.Own.{plan_of, plans_of, channels_of, seen_of, Exchanged}
 use Rattle.reference.proofs.Nths.{set_same, get_or-map_some}
-use Rattle.reference.proofs.Nths.{nth_some_below}
+use Rattle.std.proofs.lemmas.Option.{slice_get_within}
 
 -- ---- what is seen of a channel
 
@@ -33,7 +33,7 @@ unfolding seen_of seen plans_of channels_of plan_of sight_of channel messages
 seen_there cs q c old h =
     let p : get_or (map plan_of cs) c no_channel ≡ old.plan = get_or-map_some plan_of cs c old no_channel h in
     let m : get_or (map sents_of cs) c [] ≡ sents_of old = get_or-map_some sents_of cs c old [] h in
-    let b : ltb c (length (map plan_of cs)) ≡ true = lt-ltb _ _ (omega (arith, length-map cs plan_of, nth_some_below cs c old h)) in
+    let b : ltb c (length (map plan_of cs)) ≡ true = lt-ltb _ _ (omega (arith, length-map cs plan_of, slice_get_within cs c old h)) in
     ap (λ x. cond (x && (eqb (get_or (map plan_of cs) c no_channel).from q || eqb (get_or (map plan_of cs) c no_channel).to q)) (Some (record { plan = get_or (map plan_of cs) c no_channel; messages = get_or (map sents_of cs) c [] })) None) b
     ∙ (λ j. cond (eqb (p j).from q || eqb (p j).to q) (Some (record { plan = p j; messages = m j })) None)
 

@@ -9,8 +9,9 @@ use Rattle.model.specs.declared.plan.Task.{Task}
 use Rattle.model.specs.declared.plan.State.TheVariants.{Ready}
 use Rattle.model.specs.World.{Run, no_task}
 use Rattle.model.specs.Tick.{woken, checked, looked, first_ready, better, is_ready, new_runs}
+use Rattle.reference.specs.declared.task.Progress.{Progress}
 use Rattle.reference.specs.declared.task.Running.{Running}
-use Rattle.reference.specs.Parts.{task_of, run_of}
+use Rattle.reference.specs.Parts.{task_of, run_of, run_in}
 use Rattle.reference.proofs.Nths.{renewed_more, renewed_all, get_or_renewed}
 
 module _ {C : Type 0} (M : Machine C) where
@@ -46,37 +47,36 @@ module _ {C : Type 0} (M : Machine C) (ks : List Task) (t : ℕ) where
 
 -- The tasks are xs at first; those before place i are then as ls says, the others as they were.
 abbrev pub Done : List (Run Core) → List Running → ℕ → List Running → Type 0
-Done ls xs i ys = (map task_of ys ≡ map task_of xs) × (map run_of ys ≡ take i ls ++ drop i (map run_of xs))
+Done ls xs i ys = (map task_of ys ≡ map task_of xs) × (map run_in ys ≡ take i ls ++ drop i (map run_in xs))
 
 module _ (ls : List (Run Core)) (xs ys : List Running) (i : ℕ) (many : length ls ≡ length xs) (done : Done ls xs i ys) where
   as_many : length ys ≡ length xs
   as_many = sym (length-map ys task_of) ∙ ap length done.0 ∙ length-map xs task_of
 
-  all_many : length ls ≡ length (map run_of xs)
-  all_many = many ∙ sym (length-map xs run_of)
+  all_many : length ls ≡ length (map run_in xs)
+  all_many = many ∙ sym (length-map xs run_in)
 
   -- The task at hand is as at first.
-  pub plan_was : (r : Running) → r ≡ get_or ys i r → i < length ys → get_or (map task_of xs) i no_task ≡ task_of r
-  plan_was r e h = ap (λ zs. get_or zs i no_task) (sym done.0) ∙ get_or-map task_of ys i r no_task h ∙ ap task_of (sym e)
+  pub plan_was : (r : Running) → i < length ys → get_or (map task_of xs) i no_task ≡ task_of (get_or ys i r)
+  plan_was r h = ap (λ zs. get_or zs i no_task) (sym done.0) ∙ get_or-map task_of ys i r no_task h
 
-  pub run_was : (r : Running) → r ≡ get_or ys i r → i < length ys → get_or (map run_of xs) i (run_of r) ≡ run_of r
-  run_was r e h =
-      sym (get_or_renewed ls (map run_of xs) i (run_of r) all_many (omega (arith, as_many, length-map xs run_of)))
-      ∙ ap (λ zs. get_or zs i (run_of r)) (sym done.1)
-      ∙ get_or-map run_of ys i r (run_of r) h
-      ∙ ap run_of (sym e)
+  pub run_was : (r : Running) → i < length ys → get_or (map run_in xs) i (run_in r) ≡ run_in (get_or ys i r)
+  run_was r h =
+      sym (get_or_renewed ls (map run_in xs) i (run_in r) all_many (omega (arith, as_many, length-map xs run_in)))
+      ∙ ap (λ zs. get_or zs i (run_in r)) (sym done.1)
+      ∙ get_or-map run_in ys i r (run_in r) h
 
-  pub done_more : (r r' : Running) → r ≡ get_or ys i r → i < length ys → task_of r' ≡ task_of r → get_or ls i (run_of r) ≡ run_of r' → Done ls xs (i + 1) (set ys i r')
-  done_more r r' e h p g = (
-    map-set_same task_of ys i r' r (p ∙ ap task_of e) ∙ done.0,
-    map-set run_of ys i r' ∙ ap (λ zs. set zs i (run_of r')) done.1 ∙ renewed_more ls (map run_of xs) i (run_of r') (run_of r) all_many (omega (arith, as_many, length-map xs run_of)) g,
+  pub done_more : (r : Running) (p : Progress) → i < length ys → get_or ls i (run_in r) ≡ run_of p → Done ls xs (i + 1) (set ys i (record { plan = (get_or ys i r).plan; progress = p }))
+  done_more r p h e = (
+    map-set_same task_of ys i _ r refl ∙ done.0,
+    map-set run_in ys i _ ∙ ap (λ zs. set zs i (run_of p)) done.1 ∙ renewed_more ls (map run_in xs) i (run_of p) (run_in r) all_many (omega (arith, as_many, length-map xs run_in)) e,
   )
 
-  pub done_all : length ys ≤ i → map run_of (refill (length xs) xs ys) ≡ ls
+  pub done_all : length ys ≤ i → map run_in (refill (length xs) xs ys) ≡ ls
   done_all h =
-      ap (map run_of) (ap (λ zs. take (length xs) (ys ++ zs)) (drop_all (length ys) xs (omega (arith, as_many))) ∙ ap (take (length xs)) (append-nil ys) ∙ take_all (length xs) ys (omega (arith, as_many)))
+      ap (map run_in) (ap (λ zs. take (length xs) (ys ++ zs)) (drop_all (length ys) xs (omega (arith, as_many))) ∙ ap (take (length xs)) (append-nil ys) ∙ take_all (length xs) ys (omega (arith, as_many)))
       ∙ done.1
-      ∙ renewed_all ls (map run_of xs) i all_many (omega (arith, as_many, length-map xs run_of))
+      ∙ renewed_all ls (map run_in xs) i all_many (omega (arith, as_many, length-map xs run_in))
 
 module _ {C : Type 0} (ks : List Task) where
   pub first_none : (rs : List (Run C)) (i : ℕ) → length rs ≤ i → None ≡ first_ready ks i (drop i rs)

@@ -1,24 +1,11 @@
 -- Elements by their place.
-use Rattle.std.proofs.Common.{◌≡◌, ℕ, zero, suc, ◌+◌, ◌<◌, ◌≤◌, Bool, true, false, cond, List, [], ◌∷◌, ◌++◌, map, length, get_or, take, drop, set, Some, None, sym, ap, ◌∙◌, append_assoc, suc-le-suc, zero-le, arith}
+use Rattle.std.proofs.Common.{◌≡◌, ℕ, zero, suc, ◌+◌, ◌<◌, ◌≤◌, List, [], ◌∷◌, ◌++◌, map, length, get_or, take, drop, set, Some, sym, ap, ◌∙◌, append_assoc, arith}
 use Rattle.std.specs.List.{slice_get}
-use Rattle.std.proofs.lemmas.List.{append-nil, get_or_at, set-get_or, map_push, get_or_past, length-map, drop_more, take_more, set_at, length-take-le, take_all, drop_all}
+use Rattle.std.specs.Option.{option_map}
+use Rattle.std.proofs.lemmas.Option.{slice_get-map}
+use Rattle.std.proofs.lemmas.List.{append-nil, get_or_at, set-get_or, drop_more, take_more, set_at, length-take-le, take_all, drop_all}
 
 module _ {X : Type 0} where
-  pub nth_some_below : (xs : List X) (i : ℕ) (x : X) → slice_get xs i ≡ Some x → i < length xs
-  nth_some_below [] i x e = let z : ◌≡◌ {A = ℕ} 0 1 = cc in absurd (omega arith)
-  nth_some_below (y ∷ ys) zero x e = suc-le-suc zero-le
-  nth_some_below (y ∷ ys) (suc i) x e = suc-le-suc (nth_some_below ys i x e)
-
-  pub nth-none_past : (xs : List X) (i : ℕ) → slice_get xs i ≡ None → length xs ≤ i
-  nth-none_past [] i e = zero-le
-  nth-none_past (y ∷ ys) zero e = let z : ◌≡◌ {A = ℕ} 0 1 = cc in absurd (omega arith)
-  nth-none_past (y ∷ ys) (suc i) e = suc-le-suc (nth-none_past ys i e)
-
-  pub get_or_some : (xs : List X) (i : ℕ) (x d : X) → slice_get xs i ≡ Some x → get_or xs i d ≡ x
-  get_or_some [] i x d e = let z : ◌≡◌ {A = ℕ} 0 1 = cc in absurd (omega arith)
-  get_or_some (y ∷ ys) zero x d e = cc
-  get_or_some (y ∷ ys) (suc i) x d e = get_or_some ys i x d e
-
   pub set_same : (xs : List X) (i : ℕ) (x d : X) → get_or xs i d ≡ x → set xs i x ≡ xs
   set_same xs i x d e = ap (set xs i) (sym e) ∙ set-get_or xs i d
 
@@ -41,19 +28,10 @@ module _ {X : Type 0} where
       ∙ get_or_at (take i ls) (get_or rs i d) (drop (i + 1) rs) d i (length-take-le i ls (omega arith))
 
 module _ {X Y : Type 0} (f : X → Y) where
-  pub map_maybe_pushed : (r : Bool) (xs ys : List X) (x : X) (y : Y) → ys ≡ cond r (xs ++ x ∷ []) xs → f x ≡ y → map f ys ≡ cond r (map f xs ++ y ∷ []) (map f xs)
-  map_maybe_pushed true xs ys x y e g = ap (map f) e ∙ map_push f xs x ∙ ap (λ z. map f xs ++ z ∷ []) g
-  map_maybe_pushed false xs ys x y e g = ap (map f) e
-
   pub get_or-map_some : (xs : List X) (i : ℕ) (x : X) (d : Y) → slice_get xs i ≡ Some x → get_or (map f xs) i d ≡ f x
   get_or-map_some [] i x d e = let z : ◌≡◌ {A = ℕ} 0 1 = cc in absurd (omega arith)
   get_or-map_some (y ∷ ys) zero x d e = let same : y ≡ x = cc in ap f same
   get_or-map_some (y ∷ ys) (suc i) x d e = get_or-map_some ys i x d e
 
-  pub get_or-map-none : (xs : List X) (i : ℕ) (d : Y) → slice_get xs i ≡ None → get_or (map f xs) i d ≡ d
-  get_or-map-none xs i d e = get_or_past (map f xs) i d (omega (arith, length-map xs f, nth-none_past xs i e))
-
   pub nth-map_some : (xs : List X) (i : ℕ) (x : X) → slice_get xs i ≡ Some x → slice_get (map f xs) i ≡ Some (f x)
-  nth-map_some [] i x e = let z : ◌≡◌ {A = ℕ} 0 1 = cc in absurd (omega arith)
-  nth-map_some (y ∷ ys) zero x e = let same : y ≡ x = cc in ap (λ z. Some (f z)) same
-  nth-map_some (y ∷ ys) (suc i) x e = nth-map_some ys i x e
+  nth-map_some xs i x e = slice_get-map f xs i ∙ ap (option_map f) e

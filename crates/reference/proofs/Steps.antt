@@ -12,10 +12,10 @@ use Rattle.model.proofs.Priority.{first_ready_lem}
 use Rattle.model.specs.Tick.{Step, Sight, none, changed, changing, with_tasks, update, looked, first_ready, does, instruction, part_tick, acted}
 use Rattle.reference.specs.declared.part.Partition.{Partition}
 use Rattle.reference.specs.declared.queue.Queue.{Queue}
-use Rattle.reference.specs.declared.task.Running.{Running}
-use Rattle.reference.specs.Parts.{run_of, task_of, runs_of, tasks_of, heard_of, part_of}
+use Rattle.reference.specs.Parts.{run_in, task_of, runs_of, tasks_of, heard_of, part_of}
 use Rattle.reference.specs.Own.{Did, said, plans_of, channels_of}
-use Rattle.reference.proofs.Nths.{nth_some_below, nth-map_some}
+use Rattle.std.proofs.lemmas.Option.{slice_get_within}
+use Rattle.reference.proofs.Nths.{nth-map_some}
 
 module _ (step : List (ℕ × ℕ) → Step Core) (t : ℕ) (x y : Partition) (m : List ℕ) (h : List ℕ) (i : ℕ) (f : Run Core → Run Core) (cs ds : List Queue) (r : Option ℕ) where
   -- One task of x was changed by f, and the partition is y.
@@ -88,15 +88,15 @@ module _ (q t : ℕ) (sn : ℕ → Option Sight) (x y : Partition) (m : List ℕ
     unfolding instruction
     nobody_first e s = part_looked s rs ks hs ∙ ap (instruction rv32i q t sn (part_of y m s)) e
 
-    pub first_does : (i : ℕ) (run : Running) → first_ready (tasks_of y) 0 (runs_of y) ≡ Some i → slice_get y.tasks.items i ≡ Some run
-        → (s : List (ℕ × ℕ)) → part_tick rv32i q t sn (tasks_of x) (part_of x m s) ≡ acted q t sn (part_of y m s) i (act (run_of run).core m)
-    unfolding instruction does runs_of part_of
-    first_does i run e n s =
-        part_looked s rs ks hs ∙ ap (instruction rv32i q t sn (part_of y m s)) e ∙ ap (does rv32i q t sn (part_of y m s) i) (at_drop y.tasks.items i n)
+    pub first_does : (i : ℕ) (r : Run Core) → first_ready (tasks_of y) 0 (runs_of y) ≡ Some i → slice_get (runs_of y) i ≡ Some r
+        → (s : List (ℕ × ℕ)) → part_tick rv32i q t sn (tasks_of x) (part_of x m s) ≡ acted q t sn (part_of y m s) i (act r.core m)
+    unfolding instruction does part_of
+    first_does i r e n s =
+        part_looked s rs ks hs ∙ ap (instruction rv32i q t sn (part_of y m s)) e ∙ ap (does rv32i q t sn (part_of y m s) i) (at_drop (runs_of y) i n)
       where
-        at_drop : (xs : List Running) (k : ℕ) → slice_get xs k ≡ Some run → drop k (map run_of xs) ≡ run_of run ∷ drop (suc k) (map run_of xs)
+        at_drop : (xs : List (Run Core)) (k : ℕ) → slice_get xs k ≡ Some r → drop k xs ≡ r ∷ drop (suc k) xs
         at_drop [] k g = let z : ◌≡◌ {A = ℕ} 0 1 = cc in absurd (omega arith)
-        at_drop (z ∷ zs) zero g = let same : z ≡ run = cc in ap (λ w. run_of w ∷ map run_of zs) same
+        at_drop (z ∷ zs) zero g = let same : z ≡ r = cc in ap (λ w. w ∷ zs) same
         at_drop (z ∷ zs) (suc k) g = at_drop zs k g
 
 -- The task that goes first is there, and ready.
@@ -106,11 +106,10 @@ module _ (y : Partition) (i : ℕ) (e : first_ready (tasks_of y) 0 (runs_of y) �
 
   pub first_there : i < length (tasks_of y)
   unfolding tasks_of runs_of
-  first_there = omega (arith, nth_some_below _ i Ready goes_first.ready, length-map (runs_of y) (λ (r : Run Core). r.state), length-map y.tasks.items run_of, length-map y.tasks.items task_of)
+  first_there = omega (arith, slice_get_within _ i Ready goes_first.ready, length-map (runs_of y) (λ (r : Run Core). r.state), length-map y.tasks.items run_in, length-map y.tasks.items task_of)
 
-  pub first_is_ready : (run : Running) → slice_get y.tasks.items i ≡ Some run → (run_of run).state ≡ Ready
-  unfolding runs_of
-  first_is_ready run n =
-      let there : slice_get (map (λ (r : Run Core). r.state) (runs_of y)) i ≡ Some (run_of run).state = nth-map_some (λ (r : Run Core). r.state) (runs_of y) i (run_of run) (nth-map_some run_of y.tasks.items i run n) in
-      let both : ◌≡◌ {A = Option State} (Some (run_of run).state) (Some Ready) = sym there ∙ goes_first.ready in
+  pub first_is_ready : (r : Run Core) → slice_get (runs_of y) i ≡ Some r → r.state ≡ Ready
+  first_is_ready r n =
+      let there : slice_get (map (λ (r : Run Core). r.state) (runs_of y)) i ≡ Some r.state = nth-map_some (λ (r : Run Core). r.state) (runs_of y) i r n in
+      let both : ◌≡◌ {A = Option State} (Some r.state) (Some Ready) = sym there ∙ goes_first.ready in
       cc

@@ -12,10 +12,9 @@ use Rattle.model.specs.Tick.{called as called_by}
 use Rattle.reference.specs.declared.own.OwnTick.{OwnTick}
 use Rattle.reference.specs.declared.part.Partition.{Partition}
 use Rattle.reference.specs.declared.queue.Queue.{Queue}
-use Rattle.reference.specs.declared.task.Running.{Running}
-use Rattle.reference.specs.Parts.{run_of, runs_of, tasks_of, task_of, heard_of, part_of}
+use Rattle.reference.specs.Parts.{run_of, runs_of, heard_of, part_of}
 use Rattle.reference.specs.Own.{Did, Exchanged, Goes, said, seen_of, channels_of}
-use Rattle.reference.proofs.Changes.{tasks_kept, run_changed}
+use Rattle.reference.proofs.Changes.{run_changed}
 use Rattle.reference.proofs.Steps.{did, did_quiet}
 
 module _ (t : OwnTick) where
@@ -45,16 +44,14 @@ module _ (t : OwnTick) where
   quiet step other y m h f e p rs hs = did_quiet step t.time t.part.now y m h t.i f t.channels.now (λ s. e s ∙ p s) rs hs
 
   module _ (goes : Goes t) where
-    pub keeps : (y : Partition) (r : Running) → tasks_of y ≡ set (tasks_of t.part.now) t.i (task_of r) → task_of r ≡ task_of t.run → tasks_of y ≡ tasks_of t.part.now
-    keeps y r = tasks_kept t.part.now y t.i t.run r goes.found
-
-    pub goes_so : (y : Partition) (r : Running) (f : Run Core → Run Core) → runs_of y ≡ set (runs_of t.part.now) t.i (run_of r) → run_of r ≡ f (run_of t.run) → runs_of y ≡ update (runs_of t.part.now) t.i f
-    goes_so y r = run_changed t.part.now y t.i t.run r goes.found
+    pub goes_so : (y : Partition) (r : Run Core) (f : Run Core → Run Core) → runs_of y ≡ set (runs_of t.part.now) t.i r → r ≡ f (run_of t.run) → runs_of y ≡ update (runs_of t.part.now) t.i f
+    goes_so y r f = run_changed (runs_of t.part.now) (runs_of y) t.i (run_of t.run) r f goes.found
 
     -- The task goes on with a core.
-    pub going : (k : Core) (r : Run Core) → r ≡ with_the_core k → r ≡ goes_on k (run_of t.run)
+    pub goes_with : (y : Partition) (k : Core) (r : Run Core) → runs_of y ≡ set (runs_of t.part.now) t.i r → r ≡ with_the_core k → runs_of y ≡ update (runs_of t.part.now) t.i (goes_on k)
     unfolding goes_on
-    going k r e = e ∙ (λ j. record { state = goes.ready j; core = k; began = (run_of t.run).began; late = (run_of t.run).late })
+    goes_with y k r rs e =
+        goes_so y r (goes_on k) rs (e ∙ (λ j. record { state = goes.ready j; core = k; began = (run_of t.run).began; late = (run_of t.run).late }))
 
     -- A call with a channel was done.
     pub exchanged :

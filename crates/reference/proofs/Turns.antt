@@ -1,20 +1,19 @@
 -- Whose tick it is, window by window.
-use Rattle.std.proofs.Common.{◌≡◌, ℕ, ◌+◌, ◌-◌, ◌%◌, ◌^◌, ◌<◌, ◌≤◌, min, cond, ltb, List, [], ◌∷◌, length, get_or, drop, Some, None, sym, refl, ap, ◌∙◌, ⊎_elim, mod-eq_of_lt, arith, le-ltb, lt-ltb}
+use Rattle.std.proofs.Common.{◌≡◌, ℕ, ◌+◌, ◌-◌, ◌%◌, ◌^◌, ◌<◌, ◌≤◌, min, cond, leb, ltb, List, [], ◌∷◌, length, map, fold, get_or, drop, Some, None, sym, refl, ap, ◌∙◌, ⊎_elim, mod-eq_of_lt, arith, le-ltb, lt-ltb}
 use Rattle.std.proofs.lemmas.List.{at_drop_more, at_drop_all}
-use Rattle.std.proofs.lemmas.Bool.{cases_lt, cond-true, cond-false}
+use Rattle.std.proofs.lemmas.Bool.{cases_lt, cond-true, cond-false, lt-leb, le-leb}
+use Rattle.std.specs.Bool.{then_some}
 use Rattle.model.specs.declared.plan.Window.{Window}
 use Rattle.model.specs.World.{round, turn_in}
 
 abbrev pub no_window : Window
 no_window = record { partition = 0; ticks = 0 }
 
-pub round_more : (ws : List Window) (i : ℕ) → i < length ws → round (drop i ws) ≡ (get_or ws i no_window).ticks + round (drop (i + 1) ws)
+-- The sum of the windows' ticks, which stops at a largest number.
+pub fold_round : (most : ℕ) (ws : List Window) (a : ℕ) → a ≤ most → fold (λ s n. min (s + n) most) a (map (λ (w : Window). w.ticks) ws) ≡ min (a + round ws) most
 unfolding round
-round_more ws i h = at_drop_more round ws i no_window h
-
-pub round_all : (ws : List Window) (i : ℕ) → length ws ≤ i → round (drop i ws) ≡ 0
-unfolding round
-round_all ws i h = at_drop_all round ws i h
+fold_round most [] a h = omega arith
+fold_round most (w ∷ ws) a h = fold_round most ws (min (a + w.ticks) most) (omega arith) ∙ omega arith
 
 module _ (s : ℕ) where
   -- The window at hand decides, or the tick lies behind it.
@@ -27,11 +26,14 @@ module _ (s : ℕ) where
   pub turn_behind : (ws : List Window) (i t : ℕ) → i < length ws → (get_or ws i no_window).ticks ≤ t → turn_in s (drop i ws) t ≡ turn_in s (drop (i + 1) ws) (t - (get_or ws i no_window).ticks)
   turn_behind ws i t h le = turn_more ws i t h ∙ cond-false _ _ _ (le-ltb t _ le)
 
-  pub turn_system : (ws : List Window) (i t : ℕ) → i < length ws → t < (get_or ws i no_window).ticks → t < s → turn_in s (drop i ws) t ≡ None
-  turn_system ws i t h lt ls = turn_more ws i t h ∙ cond-true _ _ _ (lt-ltb t _ lt) ∙ cond-true _ _ _ (lt-ltb t s ls)
-
-  pub turn_own : (ws : List Window) (i t : ℕ) → i < length ws → t < (get_or ws i no_window).ticks → s ≤ t → turn_in s (drop i ws) t ≡ Some (get_or ws i no_window).partition
-  turn_own ws i t h lt ls = turn_more ws i t h ∙ cond-true _ _ _ (lt-ltb t _ lt) ∙ cond-false _ _ _ (le-ltb t s ls)
+  pub turn_here : (ws : List Window) (i t : ℕ) → i < length ws → t < (get_or ws i no_window).ticks → turn_in s (drop i ws) t ≡ then_some (leb s t) (get_or ws i no_window).partition
+  turn_here ws i t h lt =
+      turn_more ws i t h
+      ∙ cond-true _ _ _ (lt-ltb t _ lt)
+      ∙ ⊎_elim
+      (λ (l : t < s). cond-true _ _ _ (lt-ltb t s l) ∙ ap (λ b. then_some b (get_or ws i no_window).partition) (sym (lt-leb s t l)))
+      (λ (g : s ≤ t). cond-false _ _ _ (le-ltb t s g) ∙ ap (λ b. then_some b (get_or ws i no_window).partition) (sym (le-leb s t g)))
+      (cases_lt t s)
 
   pub turn_all : (ws : List Window) (i t : ℕ) → length ws ≤ i → turn_in s (drop i ws) t ≡ None
   unfolding turn_in

@@ -11,7 +11,7 @@ use Rattle.model.specs.World.{Part, World, Sent, no_part, part, messages}
 use Rattle.model.specs.Tick.{hearing, with_heard, with_tasks, most_unheard, came, work, applied, part_tick, looked, first_ready, instruction, changed, seen}
 use Rattle.reference.specs.declared.part.Partition.{Partition}
 use Rattle.reference.specs.declared.queue.Queue.{Queue}
-use Rattle.reference.specs.Parts.{run_of, runs_of, tasks_of, heard_of, part_of}
+use Rattle.reference.specs.Parts.{runs_of, tasks_of, heard_of, part_of}
 use Rattle.reference.specs.Own.{Did, said, plans_of, channels_of, seen_of}
 use Rattle.reference.specs.View.{plan_in, parts_of, world_of, showing}
 use Rattle.reference.proofs.Nths.{set_same, get_or-map_some}
@@ -73,15 +73,14 @@ module _ (xs : List Partition) (m n : ℕ → List ℕ) (s r : ℕ → List (ℕ
 
 -- The partition with a byte more to hear.
 hearing_is :
-    (x y : Partition) (m : List ℕ) (s : List (ℕ × ℕ)) (b : ℕ) → y.tasks ≡ x.tasks → heard_of y ≡ cond (ltb (length (heard_of x)) most_unheard) (heard_of x ++ b ∷ []) (heard_of x)
+    (x y : Partition) (m : List ℕ) (s : List (ℕ × ℕ)) (b : ℕ) → runs_of y ≡ runs_of x → heard_of y ≡ cond (ltb (length (heard_of x)) most_unheard) (heard_of x ++ b ∷ []) (heard_of x)
     → part_of y m s ≡ hearing b (part_of x m s)
-unfolding hearing with_heard part_of runs_of
-hearing_is x y m s b e h =
-    (λ j. record { memory = m; tasks = map run_of (e j).items; heard = h j; shown = s }) ∙ by (ltb (length (heard_of x)) most_unheard)
+unfolding hearing with_heard part_of
+hearing_is x y m s b e h = (λ j. record { memory = m; tasks = e j; heard = h j; shown = s }) ∙ by (ltb (length (heard_of x)) most_unheard)
   where
     by : (t : Bool)
-        → ◌≡◌ {A = Part Core} (record { memory = m; tasks = map run_of x.tasks.items; heard = cond t (heard_of x ++ b ∷ []) (heard_of x); shown = s })
-        (cond t (record { memory = m; tasks = map run_of x.tasks.items; heard = heard_of x ++ b ∷ []; shown = s }) (record { memory = m; tasks = map run_of x.tasks.items; heard = heard_of x; shown = s }))
+        → ◌≡◌ {A = Part Core} (record { memory = m; tasks = runs_of x; heard = cond t (heard_of x ++ b ∷ []) (heard_of x); shown = s })
+        (cond t (record { memory = m; tasks = runs_of x; heard = heard_of x ++ b ∷ []; shown = s }) (record { memory = m; tasks = runs_of x; heard = heard_of x; shown = s }))
     by true = refl
     by false = refl
 
@@ -90,7 +89,7 @@ module _ (t : ℕ) (m : ℕ → List ℕ) (cs : List (List Sent)) (s : ℕ → L
   abbrev pub at : List Partition → World Core
   at xs = record { time = t; parts = parts_of xs m s 0; channels = cs }
 
-  pub came_there : (xs : List Partition) (a : Arrival) (rest : List Arrival) (x y : Partition) → slice_get xs a.partition ≡ Some x → y.tasks ≡ x.tasks
+  pub came_there : (xs : List Partition) (a : Arrival) (rest : List Arrival) (x y : Partition) → slice_get xs a.partition ≡ Some x → runs_of y ≡ runs_of x
       → heard_of y ≡ cond (ltb (length (heard_of x)) most_unheard) (heard_of x ++ a.byte ∷ []) (heard_of x) → came rest (at (set xs a.partition y)) ≡ came (a ∷ rest) (at xs)
   unfolding came part
   came_there xs a rest x y h e f =

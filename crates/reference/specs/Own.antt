@@ -11,7 +11,7 @@ use Rattle.reference.specs.declared.own.OwnTick.{OwnTick}
 use Rattle.reference.specs.declared.part.Partition.{Partition}
 use Rattle.reference.specs.declared.queue.Queue.{Queue}
 use Rattle.reference.specs.Letters.{sents_of}
-use Rattle.reference.specs.Parts.{part_of, run_of}
+use Rattle.reference.specs.Parts.{part_of, run_of, runs_of}
 
 unfoldable pub plan_of : Queue → Channel
 plan_of q = q.plan
@@ -58,5 +58,5 @@ pub record Lends (old new : OwnTick) : Type 0 where
 
 -- The task that goes is the partition's, and it is ready.
 pub record Goes (t : OwnTick) : Type 0 where
-  pub found : slice_get t.part.now.tasks.items t.i ≡ Some t.run
+  pub found : slice_get (runs_of t.part.now) t.i ≡ Some (run_of t.run)
   pub ready : (run_of t.run).state ≡ Ready

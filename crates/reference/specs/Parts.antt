@@ -6,21 +6,25 @@ use Rattle.cpu.specs.Held.{core_of}
 use Rattle.model.specs.declared.plan.Task.{Task}
 use Rattle.model.specs.World.{Run, Part}
 use Rattle.model.specs.Tick.{new_runs}
+use Rattle.reference.specs.declared.task.Progress.{Progress}
 use Rattle.reference.specs.declared.task.Running.{Running}
 use Rattle.reference.specs.declared.part.Partition.{Partition}
 
-unfoldable pub run_of : Running → Run Core
+unfoldable pub run_of : Progress → Run Core
 run_of r = record { state = r.state; core = core_of r.core; began = r.began; late = r.late }
 
-unfoldable pub task_of : Running → Task
-task_of r = r.plan
+abbrev pub run_in : Running → Run Core
+run_in t = run_of t.progress
+
+abbrev pub task_of : Running → Task
+task_of t = t.plan
 
 -- The plan of a partition's tasks, and the tasks under way.
 unfoldable pub tasks_of : Partition → List Task
 tasks_of x = map task_of x.tasks.items
 
 unfoldable pub runs_of : Partition → List (Run Core)
-runs_of x = map run_of x.tasks.items
+runs_of x = map run_in x.tasks.items
 
 unfoldable pub heard_of : Partition → List ℕ
 heard_of x = x.heard.items

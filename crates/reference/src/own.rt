@@ -8,7 +8,7 @@ ghost use Rattle.reference.specs.Own.{Did, seen_of};
 
 use crate::part::Partition;
 use crate::queue::Queue;
-use crate::task::Running;
+use crate::task::Progress;
 
 mod methods;
 
@@ -21,7 +21,7 @@ pub(crate) struct OwnTick<'a> {
     q: u8,
     time: u64,
     i: usize,
-    run: Running,
+    run: Progress,
 }
 
 /// The tick of partition q: its tasks are looked at, and the one that goes first, if there is one, does an instruction.
@@ -37,10 +37,11 @@ pub(crate) fn own_tick(
     ensures tasks { tasks_of part.new ≡ tasks_of part.old }
 {
     part.look(time);
+    // Stays `let .. else`: so the project writes the task that goes first.
     let Some(i) = part.first_ready() else {
         return None;
     };
-    let run = part.task(i);
+    let run = part.progress(i);
     let mut tick = OwnTick {
         part,
         memory,

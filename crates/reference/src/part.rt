@@ -4,6 +4,7 @@ use arrayvec::ArrayVec;
 
 mod methods;
 
+// Tasks and bytes lie in the partition itself: no heap on the kernel's side.
 #[derive(Drop)]
 pub struct Partition {
     tasks: ArrayVec<Running, 16>,

@@ -15,11 +15,8 @@ fn bytes_of(pages: u16) -> usize
 fn beginning(pages: &[u16], q: usize) -> usize
     ensures value { result ≡ min (place pages.now q) 18446744073709551615 }
 {
-    let mut sum = 0usize;
-    for n in &pages[..q.min(pages.len())] {
-        sum = sum.saturating_add(bytes_of(*n));
-    }
-    sum
+    let sizes = pages[..q.min(pages.len())].iter().map(|n| bytes_of(*n));
+    sizes.fold(0, |sum, n| sum.saturating_add(n))
 }
 
 /// Where the memory of partition q lies, in so many bytes.

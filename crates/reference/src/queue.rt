@@ -7,6 +7,7 @@ use model::plan::Channel;
 
 mod methods;
 
+// Messages lie in the channel itself: no heap on the kernel's side.
 #[derive(Drop)]
 pub struct Queue {
     plan: Channel,

@@ -8,11 +8,8 @@ use model::plan::Window;
 fn round_of(windows: &[Window]) -> u64
     ensures value { result ≡ min (round windows.now) 18446744073709551615 }
 {
-    let mut sum = 0u64;
-    for w in windows {
-        sum = sum.saturating_add(u64::from(w.ticks));
-    }
-    sum
+    let ticks = windows.iter().map(|w| u64::from(w.ticks));
+    ticks.fold(0, |sum, n| sum.saturating_add(n))
 }
 
 /// Whose tick it is so many ticks into the round, where the first ticks of each window are the system's.
@@ -20,16 +17,14 @@ fn turn_in(system: u16, windows: &[Window], into: u64) -> Option<u8>
     ensures value { result ≡ turn_in system windows.now into }
 {
     let mut left = into;
+    // Left by a label: so the project writes loops over windows.
     'windows: for w in windows {
         let ticks = u64::from(w.ticks);
         if left >= ticks {
             left -= ticks;
             continue 'windows;
         }
-        if left < u64::from(system) {
-            return None;
-        }
-        return Some(w.partition);
+        return (left >= u64::from(system)).then_some(w.partition);
     }
     None
 }
@@ -39,9 +34,6 @@ pub(crate) fn turn_at(system: u16, windows: &[Window], time: u64) -> Option<u8>
     requires { time < 2 ^ 40 }
     ensures value { result ≡ turn_in system windows.now (time % round windows.now) }
 {
-    let round = round_of(windows);
-    if round == 0 {
-        return None;
-    }
-    turn_in(system, windows, time % round)
+    let into = time.checked_rem(round_of(windows))?;
+    turn_in(system, windows, into)
 }

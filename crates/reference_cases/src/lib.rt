@@ -8,39 +8,34 @@ use reference::queue::Queue;
 use reference::shown::Shown;
 use reference::world::World;
 
-/// Windows of 100 ticks for partition 0 and 50 for a partition that is not there, or partition 0 alone for very long.
-fn windows(alone: bool) -> [Window; 2] {
-    if alone {
-        [Window {
-            partition: 0,
-            ticks: 1_000_000,
-        }; 2]
-    } else {
-        [
-            Window {
-                partition: 0,
-                ticks: 100,
-            },
-            Window {
-                partition: 1,
-                ticks: 50,
-            },
-        ]
-    }
-}
+/// 100 ticks for partition 0, and 50 for a partition that is not there.
+const BY_TURNS: [Window; 2] = [
+    Window {
+        partition: 0,
+        ticks: 100,
+    },
+    Window {
+        partition: 1,
+        ticks: 50,
+    },
+];
+
+/// Partition 0 alone for very long.
+const ALONE: [Window; 2] = [Window {
+    partition: 0,
+    ticks: 1_000_000,
+}; 2];
 
 /// Writes a program into memory from its start on, as far as it goes.
 fn put_words(memory: &mut [u8], words: &[u32]) {
-    for (i, w) in words.iter().enumerate() {
-        if i < memory.len() / 4 {
-            octets::write(memory, 4 * i, *w);
-        }
+    for (place, word) in memory.chunks_exact_mut(4).zip(words) {
+        octets::write(place, 0, *word);
     }
 }
 
 /// Runs partition 0 with one task and a channel to itself for messages of up to 1,024 bytes with one place.
 fn run(
-    alone: bool,
+    windows: &[Window],
     task: Task,
     words: &[u32],
     rows: &[&[Arrival]],
@@ -61,23 +56,14 @@ fn run(
     let mut memory = [0u8; 4096];
     put_words(&mut memory, words);
     let pages = [1];
-    let windows = windows(alone);
-    let mut world = World::start(16, &windows, &mut parts, &pages, &mut memory, &mut channels);
+    let mut world = World::start(16, windows, &mut parts, &pages, &mut memory, &mut channels);
     world.run(rows, shown).is_ok()
 }
 
 /// Whether just these bytes were shown, in these ticks.
 fn says(shown: &[Option<Shown>], expected: &[(u64, u8)]) -> bool {
-    let mut k = 0usize;
-    for b in shown {
-        if let Some(s) = *b {
-            if k >= expected.len() || expected[k].0 != s.tick || expected[k].1 != s.byte {
-                return false;
-            }
-            k += 1;
-        }
-    }
-    k == expected.len()
+    let said = shown.iter().flatten().map(|s| (s.tick, s.byte));
+    said.eq(expected.iter().copied())
 }
 
 // li a7, n; ecall; jal zero, 0
@@ -119,11 +105,11 @@ mod tests {
         let rows: [&[Arrival]; 600] = [&[]; 600];
         let mut shown: [Option<Shown>; 600] = [None; 600];
         // late in tick 200, and stopped then
-        assert!(rt; run(false, task(200, 200, 0), &SHOWS_ONCE, &rows, &mut shown));
+        assert!(rt; run(&BY_TURNS, task(200, 200, 0), &SHOWS_ONCE, &rows, &mut shown));
         assert!(rt; says(&shown, &[(16, 0)]));
         // late in tick 200, new in 201; late again in 416, the first own tick after 400, and stopped then
         let mut again: [Option<Shown>; 600] = [None; 600];
-        assert!(rt; run(false, task(200, 200, 1), &SHOWS_ONCE, &rows, &mut again));
+        assert!(rt; run(&BY_TURNS, task(200, 200, 1), &SHOWS_ONCE, &rows, &mut again));
         assert!(rt; says(&again, &[(16, 0), (201, 0)]));
     }
 
@@ -132,10 +118,10 @@ mod tests {
         // its first own tick is 16: with a deadline of 16 it is late before it does anything, with 17 it shows
         let rows: [&[Arrival]; 100] = [&[]; 100];
         let mut shown: [Option<Shown>; 100] = [None; 100];
-        assert!(rt; run(false, task(200, 16, 0), &SHOWS_ONCE, &rows, &mut shown));
+        assert!(rt; run(&BY_TURNS, task(200, 16, 0), &SHOWS_ONCE, &rows, &mut shown));
         assert!(rt; says(&shown, &[]));
         let mut more: [Option<Shown>; 100] = [None; 100];
-        assert!(rt; run(false, task(200, 17, 0), &SHOWS_ONCE, &rows, &mut more));
+        assert!(rt; run(&BY_TURNS, task(200, 17, 0), &SHOWS_ONCE, &rows, &mut more));
         assert!(rt; says(&more, &[(16, 0)]));
     }
 
@@ -144,7 +130,15 @@ mod tests {
         // in each own tick its period is long over, so it is late before it does anything
         let rows: [&[Arrival]; 400] = [&[]; 400];
         let mut shown: [Option<Shown>; 400] = [None; 400];
-        assert!(rt; run(false, task(1, 1, 255), &SHOWS_AND_WAITS, &rows, &mut shown));
+        assert!(rt;
+            run(
+                &BY_TURNS,
+                task(1, 1, 255),
+                &SHOWS_AND_WAITS,
+                &rows,
+                &mut shown
+            )
+        );
         assert!(rt; says(&shown, &[]));
     }
 
@@ -156,7 +150,7 @@ mod tests {
         let mut shown: [Option<Shown>; 230] = [None; 230];
         assert!(rt;
             run(
-                false,
+                &BY_TURNS,
                 task(20, 20, 255),
                 &SHOWS_AND_WAITS,
                 &rows,
@@ -186,11 +180,27 @@ mod tests {
         // the same with two lates: late in 166, 167 and 168, so it is stopped in 168
         let rows: [&[Arrival]; 230] = [&[]; 230];
         let mut shown: [Option<Shown>; 230] = [None; 230];
-        assert!(rt; run(false, task(20, 20, 2), &SHOWS_AND_WAITS, &rows, &mut shown));
+        assert!(rt;
+            run(
+                &BY_TURNS,
+                task(20, 20, 2),
+                &SHOWS_AND_WAITS,
+                &rows,
+                &mut shown
+            )
+        );
         assert!(rt; says(&shown, &[(16, 0), (20, 0), (40, 0), (60, 0), (80, 0)]));
         // with three it goes on
         let mut more: [Option<Shown>; 230] = [None; 230];
-        assert!(rt; run(false, task(20, 20, 3), &SHOWS_AND_WAITS, &rows, &mut more));
+        assert!(rt;
+            run(
+                &BY_TURNS,
+                task(20, 20, 3),
+                &SHOWS_AND_WAITS,
+                &rows,
+                &mut more
+            )
+        );
         assert!(rt;
             says(
                 &more,
@@ -240,7 +250,7 @@ mod tests {
         let mut shown: [Option<Shown>; 4200] = [None; 4200];
         assert!(rt;
             run(
-                true,
+                &ALONE,
                 task(1_000_000, 1_000_000, 0),
                 &COUNTS,
                 &rows,
@@ -256,7 +266,7 @@ mod tests {
         let mut more: [Option<Shown>; 4200] = [None; 4200];
         assert!(rt;
             run(
-                true,
+                &ALONE,
                 task(1_000_000, 1_000_000, 0),
                 &COUNTS,
                 &rows,
@@ -297,7 +307,7 @@ mod tests {
         let mut none: [Option<Shown>; 60] = [None; 60];
         assert!(rt;
             run(
-                true,
+                &ALONE,
                 task(1_000, 1_000, 0),
                 &exchange(0x0000_0293),
                 &rows,
@@ -309,7 +319,7 @@ mod tests {
         let mut most: [Option<Shown>; 60] = [None; 60];
         assert!(rt;
             run(
-                true,
+                &ALONE,
                 task(1_000, 1_000, 0),
                 &exchange(0x4000_0293),
                 &rows,
@@ -321,7 +331,7 @@ mod tests {
         let mut over: [Option<Shown>; 60] = [None; 60];
         assert!(rt;
             run(
-                true,
+                &ALONE,
                 task(1_000, 1_000, 0),
                 &exchange(0x4010_0293),
                 &rows,

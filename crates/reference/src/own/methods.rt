@@ -14,6 +14,7 @@ use cpu::access::{finish, read, write};
 use cpu::call::{Answer, Call};
 use cpu::effect::Effect;
 
+// That the same stays lent is said of each method: a ghost field speaks of one value, and not of before and after.
 impl OwnTick<'_> {
     /// The partition sends bytes of its memory into a channel.
     fn send(&mut self, channel: u32, address: u32, length: u32) -> Answer
@@ -22,6 +23,7 @@ impl OwnTick<'_> {
         ensures part { self.new.part.now ≡ self.old.part.now }
         ensures same { Lends self.old self.new }
     {
+        // By index: after `get_mut` nothing is known of a slice.
         let c = channel as usize;
         if c >= self.channels.len() {
             return Answer::NO;
@@ -53,7 +55,7 @@ impl OwnTick<'_> {
         ensures same { Lends self.old self.new }
     {
         let (i, run) = (self.i, self.run);
-        match run.core().call() {
+        match run.call() {
             Call::Show(b) => {
                 self.part.put(i, run.answered(Answer::Value(0)));
                 Some(b)

@@ -9,10 +9,10 @@ ghost use Rattle.cpu.specs.declared.call.Answer.TheVariants.{Value};
 ghost use Rattle.model.specs.declared.plan.State.TheVariants.{Ready};
 ghost use Rattle.model.specs.World.{no_task};
 ghost use Rattle.model.specs.Tick.{looked, first_ready, first_heard, better, most_unheard, new_runs};
-ghost use Rattle.reference.specs.Parts.{tasks_of, runs_of, heard_of, run_of, task_of};
+ghost use Rattle.reference.specs.Parts.{tasks_of, runs_of, heard_of, run_of};
 
 use super::{Full, Partition};
-use crate::task::Running;
+use crate::task::{Progress, Running};
 use arrayvec::ArrayVec;
 use cpu::call::Answer;
 use model::plan::Task;
@@ -51,14 +51,15 @@ impl Partition {
         ensures heard { heard_of self.new ≡ [] }
     {
         self.heard.clear();
-        for (i, run) in self.tasks.iter_mut().enumerate() {
-            *run = run.renewed(i as u8);
+        for (i, task) in self.tasks.iter_mut().enumerate() {
+            task.progress = Progress::new(i as u8);
         }
     }
 
     /// A byte from outside comes; where as many wait as may, it is lost.
     pub(crate) fn arrive(&mut self, byte: u8)
-        ensures same { self.new.tasks ≡ self.old.tasks }
+        ensures tasks { tasks_of self.new ≡ tasks_of self.old }
+        ensures runs { runs_of self.new ≡ runs_of self.old }
         ensures heard { heard_of self.new ≡ (if nat_lt (length (heard_of self.old)) most_unheard then heard_of self.old ++ byte ∷ [] else heard_of self.old) }
     {
         let _ = self.heard.try_push(byte);
@@ -67,7 +68,8 @@ impl Partition {
     /// Takes the unheard byte that came first.
     pub(crate) fn hear(&mut self) -> Answer
         ensures value { result ≡ Value (first_heard (heard_of self.old)) }
-        ensures same { self.new.tasks ≡ self.old.tasks }
+        ensures tasks { tasks_of self.new ≡ tasks_of self.old }
+        ensures runs { runs_of self.new ≡ runs_of self.old }
         ensures heard { heard_of self.new ≡ drop 1 (heard_of self.old) }
     {
         match self.heard.pop_at(0) {
@@ -82,9 +84,9 @@ impl Partition {
         ensures runs { runs_of self.new ≡ looked rv32i (tasks_of self.old) 0 time (runs_of self.old) }
         ensures heard { heard_of self.new ≡ heard_of self.old }
     {
-        for (i, run) in self.tasks.iter_mut().enumerate() {
-            run.wake(i as u8, time);
-            run.check(time);
+        for (i, task) in self.tasks.iter_mut().enumerate() {
+            task.progress.wake(task.plan, i as u8, time);
+            task.progress.check(task.plan, time);
         }
     }
 
@@ -92,7 +94,7 @@ impl Partition {
     fn priority(&self, i: usize) -> u8
         ensures value { result ≡ (slice_index_or (tasks_of self.now) i no_task).priority }
     {
-        self.tasks.get(i).map_or(0, |run| run.priority())
+        self.tasks.get(i).map_or(0, |task| task.plan.priority)
     }
 
     /// The one that goes first of task i and the best of those behind it.
@@ -119,27 +121,27 @@ impl Partition {
         let mut best = None;
         // Stays a range: of `rfold` and `max_by_key` over numbered items, which of equals they give isn't proved.
         for i in (0..self.tasks.len()).rev() {
-            best = self.better(i, self.tasks[i].is_ready(), best);
+            best = self.better(i, self.tasks[i].progress.is_ready(), best);
         }
         best
     }
 
-    /// Task i.
-    pub(crate) fn task(&self, i: usize) -> Running
+    /// How far task i is.
+    pub(crate) fn progress(&self, i: usize) -> Progress
         requires { i < length (tasks_of self.now) }
-        ensures value { slice_get self.now.tasks.items i ≡ Some result }
+        ensures value { slice_get (runs_of self.now) i ≡ Some (run_of result) }
     {
-        self.tasks[i]
+        self.tasks[i].progress
     }
 
-    /// Task i, if there is one, is so now.
-    pub(crate) fn put(&mut self, i: usize, run: Running)
-        ensures tasks { tasks_of self.new ≡ slice_set (tasks_of self.old) i (task_of run) }
-        ensures runs { runs_of self.new ≡ slice_set (runs_of self.old) i (run_of run) }
+    /// Task i, if there is one, is so far now.
+    pub(crate) fn put(&mut self, i: usize, progress: Progress)
+        ensures tasks { tasks_of self.new ≡ tasks_of self.old }
+        ensures runs { runs_of self.new ≡ slice_set (runs_of self.old) i (run_of progress) }
         ensures heard { heard_of self.new ≡ heard_of self.old }
     {
-        if let Some(place) = self.tasks.get_mut(i) {
-            *place = run;
+        if let Some(task) = self.tasks.get_mut(i) {
+            task.progress = progress;
         }
     }
 }

@@ -15,6 +15,7 @@ use crate::shown::Shown;
 use crate::turn::turn_at;
 use model::plan::Arrival;
 
+// That the plan stays, and the time, is said of each method: a ghost field speaks of one value, and not of before and after.
 impl World<'_> {
     /// A byte from outside comes for its partition, if there is such a partition.
     fn arrival(&mut self, a: Arrival)

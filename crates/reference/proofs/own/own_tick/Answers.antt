@@ -9,20 +9,20 @@ returns-in_default-clause-value c =
     did_nothing _ c.args.time c.look.new.self c.args.memory.now c.args.channels.now
     (nobody_first c.args.q c.args.time (seen_of c.args.channels.now c.args.q) c.args.part.now c.look.new.self c.args.memory.now ls.runs ls.tasks ls.heard (sym c.first_ready.ensures.value ∙ c.in_default.is))
 
-pub task-run-requires : goal.task-run-requires
-task-run-requires c = first_there c.look.new.self c.in-Some.i (sym c.first_ready.ensures.value ∙ c.in-Some.is)
+pub progress-run-requires : goal.progress-run-requires
+progress-run-requires c = first_there c.look.new.self c.in-Some.i (sym c.first_ready.ensures.value ∙ c.in-Some.is)
 
 pub instruction-requires : goal.instruction-requires
 instruction-requires c =
     let first = sym c.first_ready.ensures.value ∙ c.in-Some.is in
-    record { found = c.task-run.ensures.value; ready = first_is_ready c.look.new.self c.in-Some.i first c.task-run.result c.task-run.ensures.value }
+    record { found = c.progress-run.ensures.value; ready = first_is_ready c.look.new.self c.in-Some.i first _ c.progress-run.ensures.value }
 
 pub returns-clause-value : goal.returns-clause-value
 returns-clause-value c =
     let ls = c.look.ensures in
     let d =
     did_as _ _ c.args.time _ _ c.args.channels.now _ _
-    (first_does c.args.q c.args.time (seen_of c.args.channels.now c.args.q) c.args.part.now c.look.new.self c.args.memory.now ls.runs ls.tasks ls.heard c.in-Some.i c.task-run.result
-    (sym c.first_ready.ensures.value ∙ c.in-Some.is) c.task-run.ensures.value)
+    (first_does c.args.q c.args.time (seen_of c.args.channels.now c.args.q) c.args.part.now c.look.new.self c.args.memory.now ls.runs ls.tasks ls.heard c.in-Some.i _
+    (sym c.first_ready.ensures.value ∙ c.in-Some.is) c.progress-run.ensures.value)
     c.instruction.ensures.value in
     search (rules, did_lent)

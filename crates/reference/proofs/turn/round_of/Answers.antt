@@ -1,13 +1,10 @@
-use Rattle.std.proofs.Common.{arith}
-use Rattle.reference.proofs.Turns.{round_more, round_all}
+use Rattle.std.proofs.Common.{◌≡◌, ℕ, ◌+◌, min, map, fold, rules, ◌∙◌, arith}
+use Rattle.model.specs.declared.plan.Window.{Window}
+use Rattle.reference.proofs.Turns.{fold_round}
 use Rattle.reference.proofs.turn.round_of.Goals as goal
 
-pub loop-w-init : goal.loop-w-init
-loop-w-init c = (omega arith, omega arith)
-
-pub loop-w-preserved : goal.loop-w-preserved
-loop-w-preserved c =
-    (c.saturating_add-sum.type_inv, omega (arith, c.loop-w.invariant.1, round_more c.args.windows.now c.loop-w.w-index c.loop-w-test.true, c.from.ensures, c.saturating_add-sum.ensures))
-
 pub returns : goal.returns
-returns c = record { value = omega (arith, c.loop-w.invariant.0, c.loop-w.invariant.1, round_all c.args.windows.now c.loop-w.w-index c.loop-w-test.false) }
+returns c =
+    let most : ℕ = 18446744073709551615 in
+    let folds : c.fold.result ≡ fold (λ s n. min (s + n) most) 0 (map (λ (w : Window). w.ticks) c.args.windows.now) = search rules in
+    record { value = folds ∙ fold_round most c.args.windows.now 0 (omega arith) ∙ omega arith }

@@ -7,7 +7,7 @@ use Rattle.octets.specs.Bytes.{at}
 use Rattle.model.specs.Tick.{acted, none, with_memory, goes_on, stops}
 use Rattle.reference.specs.Parts.{heard_of, part_of}
 use Rattle.reference.proofs.Steps.{did_as}
-use Rattle.reference.proofs.Ticks.{core, acting, becoming, with_the_core, quiet, keeps, goes_so, going}
+use Rattle.reference.proofs.Ticks.{core, acting, becoming, with_the_core, quiet, goes_so, goes_with}
 use Rattle.reference.proofs.own.OwnTick.instruction.Goals as goal
 
 pub returns-in-Sets-clause-value : goal.returns-in-Sets-clause-value
@@ -15,65 +15,50 @@ unfolding acted part_of
 returns-in-Sets-clause-value c =
     let t = c.args.self.now in
     let k = going_to (written (core t) c.in-Sets.rd.number c.in-Sets.value) c.in-Sets.next in
-    let after = c.go.ensures.after ∙ ap (λ z. going_to z c.in-Sets.next) (c.set.ensures.after ∙ ap (λ z. written z c.in-Sets.rd.number c.in-Sets.value) c.core-core.ensures.value) in
+    let after = c.go.ensures.after ∙ ap (λ z. going_to z c.in-Sets.next) (c.set.ensures.after ∙ ap (λ z. written z c.in-Sets.rd.number c.in-Sets.value) c.core-core.ensures) in
     quiet t (acting t (effect_at (core t) t.memory.now)) (acting t (Sets c.in-Sets.rd c.in-Sets.value c.in-Sets.next)) c.put.new.self t.memory.now (heard_of t.part.now) (goes_on k)
-    (λ s. ap (λ e. acting t e s) (sym (c.effect.ensures.value ∙ ap (λ z. effect_at z t.memory.now) c.core-core.ensures.value) ∙ c.in-Sets.is)) (λ s. refl)
-    (goes_so t c.requires c.put.new.self c.with_core.result (goes_on k) c.put.ensures.runs (going t c.requires k _ (c.with_core.ensures.value ∙ ap (with_the_core t) after))) c.put.ensures.heard
-
-pub returns-in-Sets-clause-tasks : goal.returns-in-Sets-clause-tasks
-returns-in-Sets-clause-tasks c = keeps c.args.self.now c.requires c.put.new.self c.with_core.result c.put.ensures.tasks c.with_core.ensures.plan
+    (λ s. ap (λ e. acting t e s) (sym (c.effect.ensures.value ∙ ap (λ z. effect_at z t.memory.now) c.core-core.ensures) ∙ c.in-Sets.is)) (λ s. refl)
+    (goes_with t c.requires c.put.new.self k _ c.put.ensures.runs (c.with_core.ensures ∙ ap (with_the_core t) after)) c.put.ensures.heard
 
 pub returns-in-Goes-clause-value : goal.returns-in-Goes-clause-value
 unfolding acted part_of
 returns-in-Goes-clause-value c =
     let t = c.args.self.now in
     let k = going_to (core t) c.in-Goes.next in
-    let after = c.go-in-Goes.ensures.after ∙ ap (λ z. going_to z c.in-Goes.next) c.core-core.ensures.value in
+    let after = c.go-in-Goes.ensures.after ∙ ap (λ z. going_to z c.in-Goes.next) c.core-core.ensures in
     quiet t (acting t (effect_at (core t) t.memory.now)) (acting t (Goes c.in-Goes.next)) c.put-in-Goes.new.self t.memory.now (heard_of t.part.now) (goes_on k)
-    (λ s. ap (λ e. acting t e s) (sym (c.effect.ensures.value ∙ ap (λ z. effect_at z t.memory.now) c.core-core.ensures.value) ∙ c.in-Goes.is)) (λ s. refl)
-    (goes_so t c.requires c.put-in-Goes.new.self c.with_core-in-Goes.result (goes_on k) c.put-in-Goes.ensures.runs (going t c.requires k _ (c.with_core-in-Goes.ensures.value ∙ ap (with_the_core t) after))) c.put-in-Goes.ensures.heard
-
-pub returns-in-Goes-clause-tasks : goal.returns-in-Goes-clause-tasks
-returns-in-Goes-clause-tasks c = keeps c.args.self.now c.requires c.put-in-Goes.new.self c.with_core-in-Goes.result c.put-in-Goes.ensures.tasks c.with_core-in-Goes.ensures.plan
+    (λ s. ap (λ e. acting t e s) (sym (c.effect.ensures.value ∙ ap (λ z. effect_at z t.memory.now) c.core-core.ensures) ∙ c.in-Goes.is)) (λ s. refl)
+    (goes_with t c.requires c.put-in-Goes.new.self k _ c.put-in-Goes.ensures.runs (c.with_core-in-Goes.ensures ∙ ap (with_the_core t) after)) c.put-in-Goes.ensures.heard
 
 pub returns-in-Loads-clause-value : goal.returns-in-Loads-clause-value
 unfolding acted part_of
 returns-in-Loads-clause-value c =
     let t = c.args.self.now in
     let k = going_on (written (core t) c.in-Loads.rd.number (extended c.in-Loads.kind (at (load_bytes c.in-Loads.kind) t.memory.now c.in-Loads.address))) in
-    let after = c.go_on.ensures.after ∙ ap going_on (c.set-in-Loads.ensures.after ∙ (λ j. written (c.core-core.ensures.value j) c.in-Loads.rd.number ((c.finish.ensures.value ∙ ap (extended c.in-Loads.kind) c.read-raw.ensures.value) j))) in
+    let after = c.go_on.ensures.after ∙ ap going_on (c.set-in-Loads.ensures.after ∙ (λ j. written (c.core-core.ensures j) c.in-Loads.rd.number ((c.finish.ensures.value ∙ ap (extended c.in-Loads.kind) c.read-raw.ensures.value) j))) in
     quiet t (acting t (effect_at (core t) t.memory.now)) (acting t (Loads c.in-Loads.rd c.in-Loads.kind c.in-Loads.address)) c.put-in-Loads.new.self t.memory.now (heard_of t.part.now) (goes_on k)
-    (λ s. ap (λ e. acting t e s) (sym (c.effect.ensures.value ∙ ap (λ z. effect_at z t.memory.now) c.core-core.ensures.value) ∙ c.in-Loads.is)) (λ s. refl)
-    (goes_so t c.requires c.put-in-Loads.new.self c.with_core-in-Loads.result (goes_on k) c.put-in-Loads.ensures.runs (going t c.requires k _ (c.with_core-in-Loads.ensures.value ∙ ap (with_the_core t) after))) c.put-in-Loads.ensures.heard
-
-pub returns-in-Loads-clause-tasks : goal.returns-in-Loads-clause-tasks
-returns-in-Loads-clause-tasks c = keeps c.args.self.now c.requires c.put-in-Loads.new.self c.with_core-in-Loads.result c.put-in-Loads.ensures.tasks c.with_core-in-Loads.ensures.plan
+    (λ s. ap (λ e. acting t e s) (sym (c.effect.ensures.value ∙ ap (λ z. effect_at z t.memory.now) c.core-core.ensures) ∙ c.in-Loads.is)) (λ s. refl)
+    (goes_with t c.requires c.put-in-Loads.new.self k _ c.put-in-Loads.ensures.runs (c.with_core-in-Loads.ensures ∙ ap (with_the_core t) after)) c.put-in-Loads.ensures.heard
 
 pub returns-in-Stores-clause-value : goal.returns-in-Stores-clause-value
 unfolding acted part_of with_memory
 returns-in-Stores-clause-value c =
     let t = c.args.self.now in
     let k = going_on (core t) in
-    let after = c.go_on-in-Stores.ensures.after ∙ ap going_on c.core-core.ensures.value in
+    let after = c.go_on-in-Stores.ensures.after ∙ ap going_on c.core-core.ensures in
     quiet t (acting t (effect_at (core t) t.memory.now)) (acting t (Stores c.in-Stores.kind c.in-Stores.address c.in-Stores.value)) c.put-in-Stores.new.self c.write.new.b (heard_of t.part.now) (goes_on k)
-    (λ s. ap (λ e. acting t e s) (sym (c.effect.ensures.value ∙ ap (λ z. effect_at z t.memory.now) c.core-core.ensures.value) ∙ c.in-Stores.is)) (λ s. ap (λ m. record { part = becoming t m (heard_of t.part.now) (goes_on k) s; change = none }) (sym c.write.ensures.after))
-    (goes_so t c.requires c.put-in-Stores.new.self c.with_core-in-Stores.result (goes_on k) c.put-in-Stores.ensures.runs (going t c.requires k _ (c.with_core-in-Stores.ensures.value ∙ ap (with_the_core t) after))) c.put-in-Stores.ensures.heard
-
-pub returns-in-Stores-clause-tasks : goal.returns-in-Stores-clause-tasks
-returns-in-Stores-clause-tasks c = keeps c.args.self.now c.requires c.put-in-Stores.new.self c.with_core-in-Stores.result c.put-in-Stores.ensures.tasks c.with_core-in-Stores.ensures.plan
+    (λ s. ap (λ e. acting t e s) (sym (c.effect.ensures.value ∙ ap (λ z. effect_at z t.memory.now) c.core-core.ensures) ∙ c.in-Stores.is)) (λ s. ap (λ m. record { part = becoming t m (heard_of t.part.now) (goes_on k) s; change = none }) (sym c.write.ensures.after))
+    (goes_with t c.requires c.put-in-Stores.new.self k _ c.put-in-Stores.ensures.runs (c.with_core-in-Stores.ensures ∙ ap (with_the_core t) after)) c.put-in-Stores.ensures.heard
 
 pub returns-in-Calls-clause-value : goal.returns-in-Calls-clause-value
 unfolding acted
 returns-in-Calls-clause-value c =
-    let t = c.args.self.now in did_as _ (acting t (effect_at (core t) t.memory.now)) t.time _ _ t.channels.now _ _ (λ s. ap (λ e. acting t e s) (sym (c.effect.ensures.value ∙ ap (λ z. effect_at z t.memory.now) c.core-core.ensures.value) ∙ c.in-Calls.is)) c.call.ensures.value
+    let t = c.args.self.now in did_as _ (acting t (effect_at (core t) t.memory.now)) t.time _ _ t.channels.now _ _ (λ s. ap (λ e. acting t e s) (sym (c.effect.ensures.value ∙ ap (λ z. effect_at z t.memory.now) c.core-core.ensures) ∙ c.in-Calls.is)) c.call.ensures.value
 
 pub returns-in-Wrong-clause-value : goal.returns-in-Wrong-clause-value
 unfolding acted part_of stops
 returns-in-Wrong-clause-value c =
     let t = c.args.self.now in
     quiet t (acting t (effect_at (core t) t.memory.now)) (acting t Wrong) c.put-in-Wrong.new.self t.memory.now (heard_of t.part.now) stops
-    (λ s. ap (λ e. acting t e s) (sym (c.effect.ensures.value ∙ ap (λ z. effect_at z t.memory.now) c.core-core.ensures.value) ∙ c.in-Wrong.is)) (λ s. refl)
-    (goes_so t c.requires c.put-in-Wrong.new.self c.stops.result stops c.put-in-Wrong.ensures.runs c.stops.ensures.value) c.put-in-Wrong.ensures.heard
-
-pub returns-in-Wrong-clause-tasks : goal.returns-in-Wrong-clause-tasks
-returns-in-Wrong-clause-tasks c = keeps c.args.self.now c.requires c.put-in-Wrong.new.self c.stops.result c.put-in-Wrong.ensures.tasks c.stops.ensures.plan
+    (λ s. ap (λ e. acting t e s) (sym (c.effect.ensures.value ∙ ap (λ z. effect_at z t.memory.now) c.core-core.ensures) ∙ c.in-Wrong.is)) (λ s. refl)
+    (goes_so t c.requires c.put-in-Wrong.new.self _ stops c.put-in-Wrong.ensures.runs c.stops.ensures) c.put-in-Wrong.ensures.heard

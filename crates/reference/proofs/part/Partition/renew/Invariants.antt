@@ -7,4 +7,4 @@ use Rattle.reference.proofs.part.Partition.renew.Given as goal
 
 -- The tasks before the one at hand are new, the others are as they were.
 abbrev pub invariant-loop-i : goal.invariant-loop-i
-invariant-loop-i l = Done (new_runs rv32i 0 (map task_of l.initial.run-items)) l.initial.run-items l.i l.run-items
+invariant-loop-i l = Done (new_runs rv32i 0 (map task_of l.initial.task-items)) l.initial.task-items l.i l.task-items

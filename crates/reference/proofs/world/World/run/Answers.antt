@@ -9,9 +9,6 @@ pub loop-k-init : goal.loop-k-init
 unfolding after_all
 loop-k-init c = (omega arith, (λ s. refl), refl, refl)
 
-pub advance-requires : goal.advance-requires
-advance-requires c = omega (arith, c.loop-k.invariant.0)
-
 pub loop-k-preserved : goal.loop-k-preserved
 loop-k-preserved c =
     let k = c.loop-k.k in
