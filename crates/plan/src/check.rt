@@ -2,6 +2,7 @@
 ghost use Rattle.std.specs.Prelude.{◌≡◌, ◌+◌, ◌*◌, ◌≤◌, true, length, is_ok, IfOk};
 ghost use Rattle.codec.specs.Codec.{times, map_out};
 ghost use Rattle.plan.specs.Refusals.{told};
+ghost use Rattle.plan.specs.Reads.{Reads};
 ghost use Rattle.plan.specs.Taken.{accepts, image_in};
 ghost use Rattle.plan.specs.Promise.{Exactly, Says};
 ghost use Rattle.plan.specs.Ends.{seen, pages_of, fits};
@@ -18,8 +19,7 @@ pub(crate) const PAGE: usize = 4096;
 
 /// Passes a partition's part; the pages of its memory.
 fn pass_part(r: &mut Reader<'_>) -> Result<u16, Refusal>
-    ensures value { told r.new.at result ≡ map_out (λ p. p.pages) (partition.read r.old.bytes.now r.old.at) }
-    ensures bytes { r.new.bytes.now ≡ r.old.bytes.now }
+    ensures { Reads r.old r.new result (λ xs k. map_out (λ p. p.pages) (partition.read xs k)) }
 {
     let head = PartHead::read(r, ())?;
     r.pass::<Task>(u16::from(head.tasks), ())?;
@@ -28,8 +28,7 @@ fn pass_part(r: &mut Reader<'_>) -> Result<u16, Refusal>
 
 /// Passes so many partitions' parts; the pages of all their memories.
 pub(crate) fn pass_parts(r: &mut Reader<'_>, n: u8) -> Result<u32, Refusal>
-    ensures value { told r.new.at result ≡ map_out pages_of ((times n partition).read r.old.bytes.now r.old.at) }
-    ensures bytes { r.new.bytes.now ≡ r.old.bytes.now }
+    ensures reads { Reads r.old r.new result (λ xs k. map_out pages_of ((times n partition).read xs k)) }
     ensures bound { IfOk result (λ pages. pages ≤ 65535 * 255) }
 {
     let mut pages = 0u32;

@@ -2,7 +2,7 @@
 ghost use Rattle.std.specs.Prelude.{◌≡◌, ℕ, true};
 ghost use Rattle.std.specs.List.{slice_get};
 ghost use Rattle.codec.specs.Codec.{Codec, times};
-ghost use Rattle.plan.specs.Refusals.{told};
+ghost use Rattle.plan.specs.Reads.{Reads};
 ghost use Rattle.plan.specs.Layout.{header, window, channel, task, part_head};
 ghost use Rattle.plan.specs.Records.{HasSize};
 ghost use Rattle.plan.specs.Taken.{was_read, things};
@@ -33,8 +33,7 @@ pub(crate) trait FromBytes: Copy {
 
     /// The next record.
     fn read(r: &mut Reader<'_>, around: Self::Around) -> Result<Self, Refusal>
-        ensures value { told r.new.at result ≡ (codec around).read r.old.bytes.now r.old.at }
-        ensures bytes { r.new.bytes.now ≡ r.old.bytes.now };
+        ensures { Reads r.old r.new result (codec around).read };
 
     ghost sized: { (a : Self.Around) → HasSize (codec a) SIZE };
 }
@@ -63,8 +62,7 @@ pub(crate) fn nth<R: FromBytes>(
 /// What a plan's first bytes say.
 pub(crate) fn header_at_front(r: &mut Reader<'_>) -> Result<Header, Refusal>
     requires { r.old.at ≡ 0 }
-    ensures value { told r.new.at result ≡ header.read r.old.bytes.now 0 }
-    ensures bytes { r.new.bytes.now ≡ r.old.bytes.now }
+    ensures { Reads r.old r.new result header.read }
 {
     let missing = Refusal::Short(r.bytes.len());
     let _name = r.number(TIME, TIME, missing, Refusal::Name)?;

@@ -17,8 +17,13 @@ loop-i-preserved c =
       omega arith,
     )
 
-pub returns-in_err-pass_part-clause-value : goal.returns-in_err-pass_part-clause-value
-returns-in_err-pass_part-clause-value c =
+pub returns-in_err-pass_part-clause-reads : goal.returns-in_err-pass_part-clause-reads
+returns-in_err-pass_part-clause-reads c =
     let l = c.loop-i in
+    let r = c.in_err-pass_part.ensures in
     let p = err_from_is_err_and c.from_residual.result c.from_residual.ensures.1 in
-    rw (p.1, p.2) (parts_stop c.args.n l._i l.pages l.r.bytes.now l.r.at _ _ c.loop-i-test.true c.in_err-pass_part.ensures.value ∙ l.invariant.0)
+    rw (p.1, p.2)
+    record {
+      value = parts_stop c.args.n l._i l.pages l.r.bytes.now l.r.at _ _ c.loop-i-test.true r.value ∙ l.invariant.0;
+      bytes = r.bytes ∙ l.invariant.1;
+    }
