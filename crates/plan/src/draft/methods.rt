@@ -6,7 +6,7 @@ ghost use Rattle.octets.specs.Bytes.{put};
 ghost use Rattle.plan.specs.Layout.{read_plan, write_plan};
 ghost use Rattle.plan.specs.Bounds.{InBounds};
 ghost use Rattle.plan.specs.Given.{Fits};
-ghost use Rattle.plan.specs.Drafts.{given, part_bytes, memory_bytes, draft_image, draft_bytes, Counted, Wrote};
+ghost use Rattle.plan.specs.Drafts.{given, head_of, part_bytes, memory_bytes, draft_image, draft_bytes, Counted, Wrote};
 ghost use Rattle.plan.specs.Writes.{Puts};
 
 use super::{Draft, DraftPart, Unwritten};
@@ -17,17 +17,26 @@ use crate::write::{ToBytes, put_bytes, write_all};
 use model::plan::{Channel, Task, Window};
 
 impl DraftPart<'_> {
-    /// How many bytes the part and the memory have; none where their numbers do not fit into the part's head.
+    /// What the part begins with; none where its numbers cannot say it.
+    fn head(&self) -> Option<PartHead>
+        ensures value { MatchOption result (Fits (given self.now) → ⊥) (λ h. Fits (given self.now) × (h ≡ head_of self.now)) }
+    {
+        if self.memory.len() % PAGE != 0 {
+            return None;
+        }
+        Some(PartHead {
+            pages: u16::try_from(self.memory.len() / PAGE).ok()?,
+            tasks: u8::try_from(self.tasks.len()).ok()?,
+        })
+    }
+
+    /// How many bytes the part and the memory have; none where the part's head cannot say it.
     fn size(&self) -> Option<usize>
         ensures value { MatchOption result (Fits (given self.now) → ⊥) (λ n. Fits (given self.now) × (n ≡ length (part_bytes self.now) + length (memory_bytes self.now))) }
         ensures bound { IfSome result (λ n. n ≤ 268435456) }
     {
-        let tasks = self.tasks.len();
-        let memory = self.memory.len();
-        if tasks > 255 || memory % PAGE != 0 || memory / PAGE > 65_535 {
-            return None;
-        }
-        Some(PartHead::SIZE + Task::SIZE * tasks + memory)
+        let _head = self.head()?;
+        Some(PartHead::SIZE + Task::SIZE * self.tasks.len() + self.memory.len())
     }
 }
 
@@ -38,10 +47,7 @@ impl ToBytes for DraftPart<'_> {
 
     #[tactic(auto, using(crate::proofs::Writing::lengths))]
     fn write(self, out: &mut [u8], k: usize) -> usize {
-        let head = PartHead {
-            pages: (self.memory.len() / PAGE) as u16,
-            tasks: self.tasks.len() as u8,
-        };
+        let head = self.head().unwrap();
         let k = head.write(out, k);
         write_all(out, k, self.tasks)
     }
