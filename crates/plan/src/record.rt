@@ -3,7 +3,7 @@ ghost use Rattle.std.specs.Prelude.{◌≡◌, ℕ, true};
 ghost use Rattle.std.specs.List.{slice_get};
 ghost use Rattle.codec.specs.Codec.{Codec, times};
 ghost use Rattle.plan.specs.Reads.{Reads};
-ghost use Rattle.plan.specs.Layout.{header, window, channel, task, part_head};
+ghost use Rattle.plan.specs.Layout.{window, channel, task, part_head};
 ghost use Rattle.plan.specs.Records.{HasSize};
 ghost use Rattle.plan.specs.Taken.{was_read, things};
 ghost use Rattle.plan.specs.Sizes.{window_size, channel_size, task_size, part_head_size};
@@ -15,9 +15,6 @@ use model::plan::{Channel, Task, Window};
 
 /// "TIME", low byte first.
 pub(crate) const TIME: u32 = 0x454d_4954;
-
-/// How many bytes the header has.
-pub(crate) const HEADER: usize = 10;
 
 /// A record of the format, which has always the same number of bytes.
 pub(crate) trait FromBytes: Copy {
@@ -57,25 +54,6 @@ pub(crate) fn nth<R: FromBytes>(
         at: from + R::SIZE * usize::from(i),
     };
     R::read(&mut r, around).ok()
-}
-
-/// What a plan's first bytes say.
-pub(crate) fn header_at_front(r: &mut Reader<'_>) -> Result<Header, Refusal>
-    requires { r.old.at ≡ 0 }
-    ensures { Reads r.old r.new result header.read }
-{
-    let missing = Refusal::Short(r.bytes.len());
-    let _name = r.number(TIME, TIME, missing, Refusal::Name)?;
-    let system = r.field(16, 65_535)?;
-    let partitions = r.field(1, 32)?;
-    let windows = r.field(1, 256)?;
-    let channels = r.field(0, 128)?;
-    Ok(Header {
-        system,
-        partitions,
-        windows,
-        channels,
-    })
 }
 
 impl FromBytes for Window {

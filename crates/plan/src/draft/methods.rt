@@ -12,7 +12,7 @@ ghost use Rattle.plan.specs.Writes.{Puts};
 use super::{Draft, DraftPart, Unwritten};
 use crate::check::PAGE;
 use crate::head::{Header, PartHead};
-use crate::record::{FromBytes, HEADER};
+use crate::record::FromBytes;
 use crate::write::{ToBytes, put_bytes, write_all};
 use model::plan::{Channel, Task, Window};
 
@@ -75,7 +75,7 @@ impl Draft<'_> {
         if windows > 256 || channels > 128 || self.parts.len() > 32 {
             return None;
         }
-        let mut size = HEADER + Window::SIZE * windows + Channel::SIZE * channels;
+        let mut size = Header::SIZE + Window::SIZE * windows + Channel::SIZE * channels;
         for part in self.parts {
             size += part.size()?;
         }

@@ -4,32 +4,18 @@ ghost use Rattle.std.specs.List.{slice_get, between};
 ghost use Rattle.codec.specs.Codec.{got, map_out, times};
 ghost use Rattle.plan.specs.Ends.{pages_of};
 ghost use Rattle.plan.specs.Layout.{header, partition};
-ghost use Rattle.plan.specs.Places.{channels_from, parts_from, IsPart};
+ghost use Rattle.plan.specs.Places.{parts_from, IsPart};
 ghost use Rattle.plan.specs.Taken.{accepts, pages_in};
 ghost use Rattle.plan.specs.Views.{bytes_of, plan_of, memories_of, tasks_of, memory_of};
 
 use super::View;
-use crate::check::{PAGE, pass_parts};
+use crate::check::PAGE;
 use crate::head::{Header, PartHead};
 use crate::part::Part;
 use crate::reader::Reader;
-use crate::record::{FromBytes, HEADER, header_at_front, nth};
+use crate::record::{FromBytes, nth};
 use model::plan::{Channel, Task, Window};
 use std::ops::Range;
-
-/// Where the channels begin.
-fn channels_from(h: Header) -> usize
-    ensures value { result ≡ channels_from h }
-{
-    HEADER + Window::SIZE * usize::from(h.windows)
-}
-
-/// Where the partitions' parts begin.
-fn parts_from(h: Header) -> usize
-    ensures value { result ≡ parts_from h }
-{
-    channels_from(h) + Channel::SIZE * usize::from(h.channels)
-}
 
 impl<'a> View<'a> {
     /// The plan in bytes that `check` took.
@@ -48,7 +34,7 @@ impl<'a> View<'a> {
             bytes: self.bytes,
             at: 0,
         };
-        header_at_front(&mut r).unwrap()
+        r.header().unwrap()
     }
 
     /// The ticks at the beginning of each window that are the system's.
@@ -84,7 +70,7 @@ impl<'a> View<'a> {
         ensures value { result ≡ slice_get (plan_of self.now).windows i }
     {
         let h = self.header();
-        nth(self.bytes, HEADER, h.windows, i, h)
+        nth(self.bytes, Header::SIZE, h.windows, i, h)
     }
 
     /// A channel, by its number.
@@ -94,7 +80,7 @@ impl<'a> View<'a> {
         let h = self.header();
         nth(
             self.bytes,
-            channels_from(h),
+            h.channels_from(),
             u16::from(h.channels),
             u16::from(i),
             h,
@@ -111,9 +97,9 @@ impl<'a> View<'a> {
     {
         let mut r = Reader {
             bytes: self.bytes,
-            at: parts_from(h),
+            at: h.parts_from(),
         };
-        let pages = pass_parts(&mut r, n).unwrap();
+        let pages = r.pass_parts(n).unwrap();
         (pages, r)
     }
 

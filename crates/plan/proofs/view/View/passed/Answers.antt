@@ -21,6 +21,6 @@ returns c =
     let e = rw c.parts_from.ensures.value at c.pass_parts.ensures.reads.value in
     record {
       bytes = c.pass_parts.ensures.reads.bytes;
-      value = ap (told c.pass_parts.new.r.at) (sym c.unwrap-pages.ensures) ∙ e;
+      value = ap (told c.pass_parts.new.self.at) (sym c.unwrap-pages.ensures) ∙ e;
       bound = IfOk-at_ok (λ n. n ≤ 65535 * 255) c.unwrap-pages.ensures c.pass_parts.ensures.bound;
     }
