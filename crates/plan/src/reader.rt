@@ -98,6 +98,7 @@ impl Reader<'_> {
         ensures reads { Reads self.old self.new result (λ xs k. map_out pages_of ((times n partition).read xs k)) }
         ensures bound { IfOk result (λ pages. pages ≤ 65535 * 255) }
     {
+        // Stays beside `pass`: parts differ in size, and what they say is added up.
         let mut pages = 0u32;
         for _i in 0..n {
             pages += u32::from(self.pass_part()?);

@@ -58,6 +58,7 @@ fn write_memories(out: &mut [u8], from: usize, parts: &[DraftPart<'_>]) -> usize
     requires { from + length (flat_map memory_bytes parts.now) ≤ length out.old }
     ensures puts { Puts out.old out.new from result (flat_map memory_bytes parts.now) }
 {
+    // Stays beside `write_all`: a part's memory does not stand in the part's own bytes, but behind all parts.
     let mut k = from;
     for part in parts {
         k = put_bytes(out, k, part.memory);
@@ -89,6 +90,7 @@ impl Draft<'_> {
         requires room { length (draft_bytes self.now) ≤ length out.old }
         ensures puts { Puts out.old out.new 0 result (draft_bytes self.now) }
     {
+        // Stays `as`: that the draft is counted keeps each number in its range.
         let h = Header {
             system: self.system,
             partitions: self.parts.len() as u8,

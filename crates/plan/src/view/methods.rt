@@ -153,6 +153,7 @@ impl<'a> View<'a> {
         ensures value { between result.start result.end (bytes_of self.now) ≡ memory_of self.now q }
         ensures bound { (result.start ≤ result.end) × (result.end ≤ length (bytes_of self.now)) }
     {
+        // Stays an empty range where there is none: what could not fail still cannot.
         let Some(part) = self.part(q) else {
             return 0..0;
         };
