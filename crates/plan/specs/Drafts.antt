@@ -29,10 +29,12 @@ head_bytes = part_head.write
 abbrev pub given : DraftPart → Given
 given p = record { tasks = p.tasks.now; memory = p.memory.now }
 
--- A partition's part, and its memory.
+-- What its part begins with, the part, and the memory.
+abbrev pub head_of : DraftPart → PartHead
+head_of p = record { pages = length p.memory.now / 4096; tasks = length p.tasks.now }
+
 abbrev pub part_bytes : DraftPart → List ℕ
-part_bytes p =
-    head_bytes (record { pages = length p.memory.now / 4096; tasks = length p.tasks.now }) ++ flat_map task_bytes p.tasks.now
+part_bytes p = head_bytes (head_of p) ++ flat_map task_bytes p.tasks.now
 
 abbrev pub memory_bytes : DraftPart → List ℕ
 memory_bytes p = p.memory.now

@@ -1,6 +1,6 @@
 -- What the parts of the checker answer: where a part of the plan ends, and not what it says. Assumes nothing: these are
 -- definitions.
-use Rattle.std.specs.Prelude.{ℕ, ◌+◌, cond, List, [], ◌∷◌, length, Ok, Err, Result, ◌==◌, nat_le}
+use Rattle.std.specs.Prelude.{ℕ, ◌+◌, if◌then◌else◌, List, [], ◌∷◌, length, Ok, Err, Result, ◌==◌, nat_le}
 use Rattle.codec.specs.Codec.{Outcome, got, refused, map_out}
 use Rattle.plan.specs.declared.refusal.Refusal.{Refusal}
 use Rattle.plan.specs.Refusals.{number_of, place_of}
@@ -22,4 +22,4 @@ pages_of (p ∷ ps) = p.pages + pages_of ps
 -- So many bytes behind place k, and no more.
 abbrev pub fits : List ℕ → (k n : ℕ) → Outcome (Unit {0})
 fits xs k n =
-    cond (nat_le (k + n) (length xs)) (cond (k + n == length xs) (got tt (k + n)) (refused 1 (k + n))) (refused 1 (length xs))
+    if nat_le (k + n) (length xs) then (if k + n == length xs then got tt (k + n) else refused 1 (k + n)) else refused 1 (length xs)

@@ -6,6 +6,7 @@ pub mod Given
 pub mod Writes
 pub mod Promise
 pub mod Ends
+pub mod Reads
 pub mod Taken
 pub mod Places
 pub mod Views

@@ -3,7 +3,7 @@ use Rattle.std.specs.Prelude.{◌≡◌, ℕ, ◌+◌, ◌*◌, ◌≤◌, true,
 use Rattle.std.specs.List.{slice_get, between}
 use Rattle.codec.specs.Codec.{got, map_out, times}
 use Rattle.plan.specs.declared.head.Header.{Header}
-use Rattle.plan.specs.declared.extent.Part.{Part}
+use Rattle.plan.specs.declared.part.Part.{Part}
 use Rattle.plan.specs.Ends.{pages_of}
 use Rattle.plan.specs.Layout.{header, task, partition}
 use Rattle.plan.specs.Taken.{image_in, pages_in, was_read, things}

@@ -26,8 +26,3 @@ place_of (Shown q) = q
 abbrev pub told : {A : Type 0} → ℕ → Result A Refusal → Outcome A
 told j (Ok a) = got a j
 told j (Err e) = refused (number_of e) (place_of e)
-
--- The same where the code's number stands for a number.
-abbrev pub told_as : {A B : Type 0} → (A → B) → ℕ → Result A Refusal → Outcome B
-told_as f j (Ok a) = got (f a) j
-told_as f j (Err e) = refused (number_of e) (place_of e)

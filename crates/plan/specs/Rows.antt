@@ -1,6 +1,6 @@
 -- A tick's row of bytes from outside: how many, and each with the partition that it is for. Assumes nothing: these are
 -- definitions.
-use Rattle.std.specs.Prelude.{ℕ, ◌-◌, ◌^◌, Bool, cond, List, length, nat_lt}
+use Rattle.std.specs.Prelude.{ℕ, ◌-◌, ◌^◌, Bool, if◌then◌else◌, List, length, nat_lt}
 use Rattle.codec.specs.Codec.{Outcome, refused, Codec, number, chain, ◌▸◌, times, named}
 use Rattle.model.specs.declared.plan.Arrival.{Arrival}
 use Rattle.plan.specs.Taken.{was_read, things}
@@ -18,7 +18,7 @@ row n = named (λ t. t.1) (λ l. (length l, l)) (chain (row_byte 255) (λ m. tim
 
 -- A row for a tick after so many others. There are at most 2^40 ticks: one more is refused at its first byte.
 abbrev pub read_row : (n time : ℕ) → List ℕ → ℕ → Outcome (List Arrival)
-read_row n time xs k = cond (nat_lt time (2 ^ 40)) ((row n).read xs k) (refused 5 k)
+read_row n time xs k = if nat_lt time (2 ^ 40) then (row n).read xs k else refused 5 k
 
 -- Whether a row begins at k.
 unfoldable pub takes_row : (n : ℕ) → List ℕ → ℕ → Bool

@@ -16,8 +16,8 @@
 
 pub mod check;
 pub mod draft;
-pub mod extent;
 pub mod head;
+mod part;
 mod reader;
 mod record;
 pub mod refusal;

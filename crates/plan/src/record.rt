@@ -2,8 +2,8 @@
 ghost use Rattle.std.specs.Prelude.{◌≡◌, ℕ, true};
 ghost use Rattle.std.specs.List.{slice_get};
 ghost use Rattle.codec.specs.Codec.{Codec, times};
-ghost use Rattle.plan.specs.Refusals.{told};
-ghost use Rattle.plan.specs.Layout.{header, window, channel, task, part_head};
+ghost use Rattle.plan.specs.Reads.{Reads};
+ghost use Rattle.plan.specs.Layout.{window, channel, task, part_head};
 ghost use Rattle.plan.specs.Records.{HasSize};
 ghost use Rattle.plan.specs.Taken.{was_read, things};
 ghost use Rattle.plan.specs.Sizes.{window_size, channel_size, task_size, part_head_size};
@@ -15,9 +15,6 @@ use model::plan::{Channel, Task, Window};
 
 /// "TIME", low byte first.
 pub(crate) const TIME: u32 = 0x454d_4954;
-
-/// How many bytes the header has.
-pub(crate) const HEADER: usize = 10;
 
 /// A record of the format, which has always the same number of bytes.
 pub(crate) trait FromBytes: Copy {
@@ -33,8 +30,7 @@ pub(crate) trait FromBytes: Copy {
 
     /// The next record.
     fn read(r: &mut Reader<'_>, around: Self::Around) -> Result<Self, Refusal>
-        ensures value { told r.new.at result ≡ (codec around).read r.old.bytes.now r.old.at }
-        ensures bytes { r.new.bytes.now ≡ r.old.bytes.now };
+        ensures { Reads r.old r.new result (codec around).read };
 
     ghost sized: { (a : Self.Around) → HasSize (codec a) SIZE };
 }
@@ -58,26 +54,6 @@ pub(crate) fn nth<R: FromBytes>(
         at: from + R::SIZE * usize::from(i),
     };
     R::read(&mut r, around).ok()
-}
-
-/// What a plan's first bytes say.
-pub(crate) fn header_at_front(r: &mut Reader<'_>) -> Result<Header, Refusal>
-    requires { r.old.at ≡ 0 }
-    ensures value { told r.new.at result ≡ header.read r.old.bytes.now 0 }
-    ensures bytes { r.new.bytes.now ≡ r.old.bytes.now }
-{
-    let missing = Refusal::Short(r.bytes.len());
-    let _name = r.number(TIME, TIME, missing, Refusal::Name)?;
-    let system = r.field(16, 65_535)?;
-    let partitions = r.field(1, 32)?;
-    let windows = r.field(1, 256)?;
-    let channels = r.field(0, 128)?;
-    Ok(Header {
-        system,
-        partitions,
-        windows,
-        channels,
-    })
 }
 
 impl FromBytes for Window {

@@ -1,6 +1,6 @@
 //! Rows of bytes from outside: for each tick how many, each with partition and byte.
 ghost use Rattle.std.specs.Prelude.{◌≡◌, ◌+◌, ◌<◌, ◌≤◌, true, length, IfOk, OnOk};
-ghost use Rattle.plan.specs.Refusals.{told};
+ghost use Rattle.plan.specs.Reads.{Reads};
 ghost use Rattle.plan.specs.Ends.{seen, ended};
 ghost use Rattle.plan.specs.Rows.{row_byte, arrival, read_row, takes_row};
 ghost use Rattle.plan.specs.Sizes.{arrival_size};
@@ -15,8 +15,7 @@ pub const TICKS: u64 = 1 << 40;
 
 /// The next byte of a row, up to `hi`.
 pub(crate) fn row_byte(r: &mut Reader<'_>, hi: u8) -> Result<u8, Refusal>
-    ensures value { told r.new.at result ≡ (row_byte hi).read r.old.bytes.now r.old.at }
-    ensures bytes { r.new.bytes.now ≡ r.old.bytes.now }
+    ensures { Reads r.old r.new result (row_byte hi).read }
 {
     let missing = Refusal::Row(r.bytes.len());
     let fault = Refusal::Row(r.at);

@@ -6,28 +6,37 @@ ghost use Rattle.octets.specs.Bytes.{put};
 ghost use Rattle.plan.specs.Layout.{read_plan, write_plan};
 ghost use Rattle.plan.specs.Bounds.{InBounds};
 ghost use Rattle.plan.specs.Given.{Fits};
-ghost use Rattle.plan.specs.Drafts.{given, part_bytes, memory_bytes, draft_image, draft_bytes, Counted, Wrote};
+ghost use Rattle.plan.specs.Drafts.{given, head_of, part_bytes, memory_bytes, draft_image, draft_bytes, Counted, Wrote};
 ghost use Rattle.plan.specs.Writes.{Puts};
 
 use super::{Draft, DraftPart, Unwritten};
 use crate::check::PAGE;
 use crate::head::{Header, PartHead};
-use crate::record::{FromBytes, HEADER};
+use crate::record::FromBytes;
 use crate::write::{ToBytes, put_bytes, write_all};
 use model::plan::{Channel, Task, Window};
 
 impl DraftPart<'_> {
-    /// How many bytes the part and the memory have; none where their numbers do not fit into the part's head.
+    /// What the part begins with; none where its numbers cannot say it.
+    fn head(&self) -> Option<PartHead>
+        ensures value { MatchOption result (Fits (given self.now) → ⊥) (λ h. Fits (given self.now) × (h ≡ head_of self.now)) }
+    {
+        if self.memory.len() % PAGE != 0 {
+            return None;
+        }
+        Some(PartHead {
+            pages: u16::try_from(self.memory.len() / PAGE).ok()?,
+            tasks: u8::try_from(self.tasks.len()).ok()?,
+        })
+    }
+
+    /// How many bytes the part and the memory have; none where the part's head cannot say it.
     fn size(&self) -> Option<usize>
         ensures value { MatchOption result (Fits (given self.now) → ⊥) (λ n. Fits (given self.now) × (n ≡ length (part_bytes self.now) + length (memory_bytes self.now))) }
         ensures bound { IfSome result (λ n. n ≤ 268435456) }
     {
-        let tasks = self.tasks.len();
-        let memory = self.memory.len();
-        if tasks > 255 || memory % PAGE != 0 || memory / PAGE > 65_535 {
-            return None;
-        }
-        Some(PartHead::SIZE + Task::SIZE * tasks + memory)
+        let _head = self.head()?;
+        Some(PartHead::SIZE + Task::SIZE * self.tasks.len() + self.memory.len())
     }
 }
 
@@ -38,10 +47,7 @@ impl ToBytes for DraftPart<'_> {
 
     #[tactic(auto, using(crate::proofs::Writing::lengths))]
     fn write(self, out: &mut [u8], k: usize) -> usize {
-        let head = PartHead {
-            pages: (self.memory.len() / PAGE) as u16,
-            tasks: self.tasks.len() as u8,
-        };
+        let head = self.head().unwrap();
         let k = head.write(out, k);
         write_all(out, k, self.tasks)
     }
@@ -52,6 +58,7 @@ fn write_memories(out: &mut [u8], from: usize, parts: &[DraftPart<'_>]) -> usize
     requires { from + length (flat_map memory_bytes parts.now) ≤ length out.old }
     ensures puts { Puts out.old out.new from result (flat_map memory_bytes parts.now) }
 {
+    // Stays beside `write_all`: a part's memory does not stand in the part's own bytes, but behind all parts.
     let mut k = from;
     for part in parts {
         k = put_bytes(out, k, part.memory);
@@ -69,7 +76,7 @@ impl Draft<'_> {
         if windows > 256 || channels > 128 || self.parts.len() > 32 {
             return None;
         }
-        let mut size = HEADER + Window::SIZE * windows + Channel::SIZE * channels;
+        let mut size = Header::SIZE + Window::SIZE * windows + Channel::SIZE * channels;
         for part in self.parts {
             size += part.size()?;
         }
@@ -83,6 +90,7 @@ impl Draft<'_> {
         requires room { length (draft_bytes self.now) ≤ length out.old }
         ensures puts { Puts out.old out.new 0 result (draft_bytes self.now) }
     {
+        // Stays `as`: that the draft is counted keeps each number in its range.
         let h = Header {
             system: self.system,
             partitions: self.parts.len() as u8,

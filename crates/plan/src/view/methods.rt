@@ -4,31 +4,18 @@ ghost use Rattle.std.specs.List.{slice_get, between};
 ghost use Rattle.codec.specs.Codec.{got, map_out, times};
 ghost use Rattle.plan.specs.Ends.{pages_of};
 ghost use Rattle.plan.specs.Layout.{header, partition};
-ghost use Rattle.plan.specs.Places.{channels_from, parts_from, IsPart};
+ghost use Rattle.plan.specs.Places.{parts_from, IsPart};
 ghost use Rattle.plan.specs.Taken.{accepts, pages_in};
 ghost use Rattle.plan.specs.Views.{bytes_of, plan_of, memories_of, tasks_of, memory_of};
 
 use super::View;
-use crate::check::{PAGE, pass_parts};
-use crate::extent::{Extent, Part};
+use crate::check::PAGE;
 use crate::head::{Header, PartHead};
+use crate::part::Part;
 use crate::reader::Reader;
-use crate::record::{FromBytes, HEADER, header_at_front, nth};
+use crate::record::{FromBytes, nth};
 use model::plan::{Channel, Task, Window};
-
-/// Where the channels begin.
-fn channels_from(h: Header) -> usize
-    ensures value { result ≡ channels_from h }
-{
-    HEADER + Window::SIZE * usize::from(h.windows)
-}
-
-/// Where the partitions' parts begin.
-fn parts_from(h: Header) -> usize
-    ensures value { result ≡ parts_from h }
-{
-    channels_from(h) + Channel::SIZE * usize::from(h.channels)
-}
+use std::ops::Range;
 
 impl<'a> View<'a> {
     /// The plan in bytes that `check` took.
@@ -47,7 +34,7 @@ impl<'a> View<'a> {
             bytes: self.bytes,
             at: 0,
         };
-        header_at_front(&mut r).unwrap()
+        r.header().unwrap()
     }
 
     /// The ticks at the beginning of each window that are the system's.
@@ -83,7 +70,7 @@ impl<'a> View<'a> {
         ensures value { result ≡ slice_get (plan_of self.now).windows i }
     {
         let h = self.header();
-        nth(self.bytes, HEADER, h.windows, i, h)
+        nth(self.bytes, Header::SIZE, h.windows, i, h)
     }
 
     /// A channel, by its number.
@@ -93,7 +80,7 @@ impl<'a> View<'a> {
         let h = self.header();
         nth(
             self.bytes,
-            channels_from(h),
+            h.channels_from(),
             u16::from(h.channels),
             u16::from(i),
             h,
@@ -110,9 +97,9 @@ impl<'a> View<'a> {
     {
         let mut r = Reader {
             bytes: self.bytes,
-            at: parts_from(h),
+            at: h.parts_from(),
         };
-        let pages = pass_parts(&mut r, n).unwrap();
+        let pages = r.pass_parts(n).unwrap();
         (pages, r)
     }
 
@@ -162,27 +149,24 @@ impl<'a> View<'a> {
     }
 
     /// Where a partition's memory lies in the bytes; nothing, at their front, where there is no such partition.
-    pub fn memory(&self, q: u8) -> Extent
-        ensures value { between result.from result.to (bytes_of self.now) ≡ memory_of self.now q }
-        ensures bound { (result.from ≤ result.to) × (result.to ≤ length (bytes_of self.now)) }
+    pub fn memory(&self, q: u8) -> Range<usize>
+        ensures value { between result.start result.end (bytes_of self.now) ≡ memory_of self.now q }
+        ensures bound { (result.start ≤ result.end) × (result.end ≤ length (bytes_of self.now)) }
     {
+        // Stays an empty range where there is none: what could not fail still cannot.
         let Some(part) = self.part(q) else {
-            return Extent { from: 0, to: 0 };
+            return 0..0;
         };
         let h = self.header();
         let (_, r) = self.passed(h, h.partitions);
         let from = r.at + PAGE * part.before as usize;
-        Extent {
-            from,
-            to: from + PAGE * usize::from(part.head.pages),
-        }
+        from..from + PAGE * usize::from(part.head.pages)
     }
 
     /// A partition's memory at the start; nothing where there is no such partition.
     pub fn memory_bytes(&self, q: u8) -> &'a [u8]
         ensures value { result.now ≡ memory_of self.now q }
     {
-        let Extent { from, to } = self.memory(q);
-        &self.bytes[from..to]
+        &self.bytes[self.memory(q)]
     }
 }

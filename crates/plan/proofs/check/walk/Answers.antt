@@ -36,7 +36,7 @@ returns-in_err-pages c =
     record {
       value =
           stop_parts c.args.b.now h.h _ h.ensures.value _ h.ensures.bytes _ w.value _ bw _ v _ (c.in_ok-pass-2.ensures.bytes ∙ bw) _ _
-          c.in_err-pages.ensures.value;
+          c.in_err-pages.ensures.reads.value;
     }
 
 pub returns : goal.returns
@@ -46,12 +46,12 @@ returns c =
     let v = rw c.from.ensures at c.in_ok-pass-2.ensures.value in
     let bw = w.bytes ∙ h.ensures.bytes in
     let bp = c.in_ok-pass-2.ensures.bytes ∙ bw in
-    let be : c.pass_parts.new.r.bytes.now ≡ c.args.b.now = c.in_ok-pages.ensures.bytes ∙ bp in
-    let room : c.pass_parts.new.r.at ≤ length c.args.b.now = omega (arith, c.pass_parts.new.r.within, ap length be) in
+    let be : c.pass_parts.new.self.bytes.now ≡ c.args.b.now = c.in_ok-pages.ensures.reads.bytes ∙ bp in
+    let room : c.pass_parts.new.self.at ≤ length c.args.b.now = omega (arith, c.pass_parts.new.self.within, ap length be) in
     record {
       value =
           sym (ap (λ xs. told (length xs) c.memories_fit.result) be)
           ∙ c.memories_fit.ensures.value
-          ∙ ap (λ xs. fits xs c.pass_parts.new.r.at (4096 * c.in_ok-pages.pages)) be
-          ∙ past_parts c.args.b.now h.h _ h.ensures.value _ h.ensures.bytes _ w.value _ bw _ v _ bp _ _ room c.in_ok-pages.ensures.value;
+          ∙ ap (λ xs. fits xs c.pass_parts.new.self.at (4096 * c.in_ok-pages.pages)) be
+          ∙ past_parts c.args.b.now h.h _ h.ensures.value _ h.ensures.bytes _ w.value _ bw _ v _ bp _ _ room c.in_ok-pages.ensures.reads.value;
     }

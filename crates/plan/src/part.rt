@@ -1,12 +1,5 @@
-//! Where things lie in a plan's bytes.
+//! A partition's part of a plan's bytes, as it was found.
 use crate::head::PartHead;
-
-/// From a place up to another.
-#[derive(Clone, Copy)]
-pub struct Extent {
-    pub from: usize,
-    pub to: usize,
-}
 
 /// A partition's part: what it begins with, where its tasks lie, and the pages of the partitions before it.
 #[derive(Clone, Copy)]
