@@ -26,6 +26,8 @@ mod tests {
         1, 0, 0, // partition 1: a page, no tasks
     ];
 
+    // Rows of a table stay tuples: a struct's six names in 123 rows would hide the numbers that were worked out.
+
     // Length, place, bytes and value of the damage; the number and the place of the refusal, 0 and 0 where it is taken.
     const DAMAGED_1: [(usize, usize, usize, u32, u8, usize); 40] = [
         (8248, 0, 0, 0, 0, 0), // as it is
@@ -180,11 +182,9 @@ mod tests {
         bytes: usize,
         value: u32,
     ) -> Result<Vec<u8>, AllocError> {
-        let mut all = Vec::new(heap);
-        for k in 0..length {
-            all.push(byte_at(k, at, bytes, value))?;
-        }
-        Ok(all)
+        (0..length)
+            .map(|k| byte_at(k, at, bytes, value))
+            .collect(heap)
     }
 
     fn told(plan: &[u8]) -> (u8, usize) {
@@ -224,9 +224,7 @@ mod tests {
     fn smallest_plan(rt: HostRuntime) -> Result<(), Fail> {
         let mut plan = Vec::new(rt.alloc());
         plan.extend_from_slice(&SMALLEST)?;
-        for _ in 0..4096 {
-            plan.push(0xff)?;
-        }
+        plan.resize(SMALLEST.len() + 4096, 0xff)?;
         assert_eq!(rt; told(plan.as_slice()), (0, 0));
         plan.push(0)?;
         assert_eq!(rt; told(plan.as_slice()), (1, 4114));
@@ -250,9 +248,8 @@ mod tests {
                 plan.extend_from_slice(&[255, 0, 0xe1, 0xf5, 0x05, 0, 0xe1, 0xf5, 0x05, 255])?;
             }
         }
-        for _ in 0..131_072 {
-            plan.push(0x5a)?;
-        }
+        let end = plan.len() + 131_072;
+        plan.resize(end, 0x5a)?;
         Ok(plan)
     }
 

@@ -40,15 +40,13 @@ fn run(
     words: &[u32],
     rows: &[&[Arrival]],
     shown: &mut [Option<Shown>],
-) -> bool {
-    let Some(queue) = Queue::new(Channel {
+) -> Option<()> {
+    let queue = Queue::new(Channel {
         from: 0,
         to: 0,
         bytes: 1024,
         places: 1,
-    }) else {
-        return false;
-    };
+    })?;
     let mut part = Partition::new();
     let _ = part.add(task);
     let mut parts = [part];
@@ -57,7 +55,7 @@ fn run(
     put_words(&mut memory, words);
     let pages = [1];
     let mut world = World::start(16, windows, &mut parts, &pages, &mut memory, &mut channels);
-    world.run(rows, shown).is_ok()
+    world.run(rows, shown).ok()
 }
 
 /// Whether just these bytes were shown, in these ticks.
@@ -105,11 +103,11 @@ mod tests {
         let rows: [&[Arrival]; 600] = [&[]; 600];
         let mut shown: [Option<Shown>; 600] = [None; 600];
         // late in tick 200, and stopped then
-        assert!(rt; run(&BY_TURNS, task(200, 200, 0), &SHOWS_ONCE, &rows, &mut shown));
+        assert!(rt; run(&BY_TURNS, task(200, 200, 0), &SHOWS_ONCE, &rows, &mut shown).is_some());
         assert!(rt; says(&shown, &[(16, 0)]));
         // late in tick 200, new in 201; late again in 416, the first own tick after 400, and stopped then
         let mut again: [Option<Shown>; 600] = [None; 600];
-        assert!(rt; run(&BY_TURNS, task(200, 200, 1), &SHOWS_ONCE, &rows, &mut again));
+        assert!(rt; run(&BY_TURNS, task(200, 200, 1), &SHOWS_ONCE, &rows, &mut again).is_some());
         assert!(rt; says(&again, &[(16, 0), (201, 0)]));
     }
 
@@ -118,10 +116,10 @@ mod tests {
         // its first own tick is 16: with a deadline of 16 it is late before it does anything, with 17 it shows
         let rows: [&[Arrival]; 100] = [&[]; 100];
         let mut shown: [Option<Shown>; 100] = [None; 100];
-        assert!(rt; run(&BY_TURNS, task(200, 16, 0), &SHOWS_ONCE, &rows, &mut shown));
+        assert!(rt; run(&BY_TURNS, task(200, 16, 0), &SHOWS_ONCE, &rows, &mut shown).is_some());
         assert!(rt; says(&shown, &[]));
         let mut more: [Option<Shown>; 100] = [None; 100];
-        assert!(rt; run(&BY_TURNS, task(200, 17, 0), &SHOWS_ONCE, &rows, &mut more));
+        assert!(rt; run(&BY_TURNS, task(200, 17, 0), &SHOWS_ONCE, &rows, &mut more).is_some());
         assert!(rt; says(&more, &[(16, 0)]));
     }
 
@@ -138,6 +136,7 @@ mod tests {
                 &rows,
                 &mut shown
             )
+            .is_some()
         );
         assert!(rt; says(&shown, &[]));
     }
@@ -156,6 +155,7 @@ mod tests {
                 &rows,
                 &mut shown,
             )
+            .is_some()
         );
         assert!(rt;
             says(
@@ -188,6 +188,7 @@ mod tests {
                 &rows,
                 &mut shown
             )
+            .is_some()
         );
         assert!(rt; says(&shown, &[(16, 0), (20, 0), (40, 0), (60, 0), (80, 0)]));
         // with three it goes on
@@ -200,6 +201,7 @@ mod tests {
                 &rows,
                 &mut more
             )
+            .is_some()
         );
         assert!(rt;
             says(
@@ -256,6 +258,7 @@ mod tests {
                 &rows,
                 &mut shown,
             )
+            .is_some()
         );
         assert!(rt; says(&shown, &[(4118, 0), (4120, 4)]));
         // one more in tick 1 is lost
@@ -272,6 +275,7 @@ mod tests {
                 &rows,
                 &mut more,
             )
+            .is_some()
         );
         assert!(rt; says(&more, &[(4118, 0), (4120, 4)]));
     }
@@ -313,6 +317,7 @@ mod tests {
                 &rows,
                 &mut none,
             )
+            .is_some()
         );
         assert!(rt; says(&none, &[(22, 0), (30, 0)]));
         // li t0, 1024: sent, and taken with length 1,024, an eighth of which is 128
@@ -325,6 +330,7 @@ mod tests {
                 &rows,
                 &mut most,
             )
+            .is_some()
         );
         assert!(rt; says(&most, &[(22, 0), (30, 128)]));
         // li t0, 1025: refused, and there is nothing to take, so that a1 stays 2,048, an eighth of which ends in 0
@@ -337,6 +343,7 @@ mod tests {
                 &rows,
                 &mut over,
             )
+            .is_some()
         );
         assert!(rt; says(&over, &[(22, 255), (30, 0)]));
     }

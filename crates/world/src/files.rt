@@ -66,10 +66,8 @@ impl Outside<'_> {
         if let Outside::Rows(bytes, place) = *self {
             let end = row_end(bytes, place, partitions, time)?;
             let coming = Row::new(bytes, place, partitions);
-            for i in 0..coming.len() {
-                if let Some(arrival) = coming.arrival(i) {
-                    row.push(arrival)?;
-                }
+            for arrival in (0..coming.len()).filter_map(|i| coming.arrival(i)) {
+                row.push(arrival)?;
             }
             *self = Outside::Rows(bytes, end);
         }
