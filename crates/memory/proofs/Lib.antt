@@ -1,3 +1,4 @@
 pub mod Frames
+pub mod Sets
 pub mod Walks
 pub mod Entries

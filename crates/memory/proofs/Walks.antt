@@ -1,12 +1,13 @@
 -- What the entries of the tables say of an address, and what a walk says of an access.
-use Rattle.std.proofs.Common.{◌≡◌, ℕ, ◌+◌, ◌*◌, ◌/◌, ◌%◌, ◌<◌, ◌≤◌, cond, ltb, List, length, Some, None, sym, ap, ◌∙◌, ⊎_elim, arith}
+use Rattle.std.proofs.Common.{◌≡◌, ℕ, ◌+◌, ◌*◌, ◌/◌, ◌%◌, ◌^◌, ◌<◌, ◌≤◌, cond, ltb, leb, List, length, Some, None, Option, sym, subst, ap, ◌∙◌, ⊎_elim, arith}
 use Rattle.std.proofs.lemmas.Bool.{cond-true, cond-false, cases_lt, lt-ltb, le-ltb, le-leb, and_left, and_from, eq-eqb, ne_eqb}
 use Rattle.std.proofs.lemmas.Bool.Decides.{nat_tests}
 use Rattle.decode.specs.declared.instruction.LoadKind.{LoadKind}
 use Rattle.decode.specs.declared.instruction.LoadKind.TheVariants.{Lb, Lh, Lw, Lbu, Lhu}
 use Rattle.decode.specs.declared.instruction.StoreKind.{StoreKind}
 use Rattle.decode.specs.declared.instruction.StoreKind.TheVariants.{Sb, Sh, Sw}
-use Rattle.octets.specs.Bytes.{at, put}
+use Rattle.octets.specs.Bytes.{at, bytes_of, put}
+use Rattle.octets.proofs.Numbers.{length-bytes_of}
 use Rattle.cpu.specs.Effects.{inside}
 use Rattle.cpu.specs.Meaning.{load_bytes, store_bytes}
 use Rattle.memory.specs.Frames.{memory_of, control_of, pages_of, root_entry, leaf_entry, Mapped}
@@ -40,7 +41,7 @@ module _ (b : List ℕ) (m : Mapped b) (a : ℕ) (small : a < 4294967296) where
   pub no_leaf : at 4 b (4096 * 0 + 4 * (a / 4194304)) ≡ 0 → length (memory_of b) ≤ a
   no_leaf e = omega (arith, root_none (a / 4194304) (sym root_is ∙ e), memory_pages b m, m.few)
 
-  module _ (leaf : ℕ) (found : (leaf ≡ at 4 b (4096 * 0 + 4 * (a / 4194304))) × (0 < leaf)) where
+  module _ (leaf : ℕ) (found : (leaf ≡ at 4 b (4096 * 0 + 4 * (a / 4194304))) × (0 < leaf) × (leaf < 2 ^ 32)) where
     pub leaf_frame : (leaf ≡ 1) × (a < 4194304)
     leaf_frame = let w = root_one (a / 4194304) (λ e. omega (arith, found.0 ∙ root_is, e)) in (found.0 ∙ root_is ∙ w.1, omega (arith, w.0))
 
@@ -51,7 +52,7 @@ module _ (b : List ℕ) (m : Mapped b) (a : ℕ) (small : a < 4294967296) where
     no_page e = omega (arith, leaf_none (pages_of b) (a / 4096 % 1024) (sym page_is ∙ e), leaf_frame.1, memory_pages b m)
 
     pub in_page :
-        (page : ℕ) → (page ≡ at 4 b (4096 * leaf + 4 * (a / 4096 % 1024))) × (0 < page)
+        (page : ℕ) → (page ≡ at 4 b (4096 * leaf + 4 * (a / 4096 % 1024))) × (0 < page) × (page < 2 ^ 32)
         → (a < length (memory_of b)) × (4096 * page + a % 4096 ≡ 32768 + a)
     in_page page next =
         let w = leaf_page (pages_of b) (a / 4096 % 1024) (λ e. omega (arith, next.0 ∙ page_is, e)) in
@@ -114,20 +115,47 @@ module _ (b : List ℕ) (m : Mapped b) (a k : ℕ) (found : Some k ≡ cond (ltb
       let fits = store_fits kind a (pages_of b) e (omega (arith, w.0, p)) in
       (omega (arith, fits, p), w.1, omega (arith, fits, m.whole, w.1))
 
+-- The same of a word, at a multiple of four.
+pub word_there :
+    (b : List ℕ) (m : Mapped b) (a k : ℕ) → Some k ≡ cond (ltb a (length (memory_of b))) (Some (32768 + a)) None → a % 4 ≡ 0
+    → (a + 4 ≤ length (memory_of b)) × (k ≡ 32768 + a) × (k + 4 ≤ length b)
+word_there b m a k found e = load_there b m a k found Lw e
+
 -- What is read at that place, as it stands in memory.
 pub read_there : (n : ℕ) (b : List ℕ) (a k w : ℕ) → k ≡ 32768 + a → w ≡ at n b k → w ≡ at n (memory_of b) a
 read_there n b a k w e v = v ∙ ap (at n b) e ∙ at-memory n b a
 
--- What a write at that place leaves.
-module _ (b ys : List ℕ) (m : Mapped b) (a k : ℕ) (place : k ≡ 32768 + a) (room : k + length ys ≤ length b) where
-  pub memory_written : memory_of (put b k ys) ≡ put (memory_of b) a ys
-  memory_written = ap (λ i. memory_of (put b i ys)) place ∙ memory_put_above b ys a (omega arith)
+-- What a store at an address leaves, where the walk was in the block as it is read.
+module _ (b r b' : List ℕ) (m : Mapped b) (kind : StoreKind) (a k v : ℕ) (same : r ≡ b)
+    (walked : Some k ≡ cond (ltb a (length (memory_of r))) (Some (32768 + a)) None) (aligned : a % store_bytes kind ≡ 0) where
+  abbrev ys : List ℕ
+  ys = bytes_of (store_bytes kind) v
 
-  pub control_written : control_of (put b k ys) ≡ control_of b
-  control_written = control_put_above b ys k (omega arith) room
+  there : (a + store_bytes kind ≤ length (memory_of b)) × (k ≡ 32768 + a) × (k + store_bytes kind ≤ length b)
+  there = store_there b m a k (found_in r b a k same walked) kind aligned
 
-  pub mapped_written : Mapped (put b k ys)
-  mapped_written = mapped_put b ys k (omega arith) room m
+  room : k + length ys ≤ length b
+  room = omega (arith, there.2, length-bytes_of (store_bytes kind) v)
+
+  pub store_fits_there : k + store_bytes kind ≤ length b
+  store_fits_there = there.2
+
+  pub stored_there : ◌≡◌ {A = Option (Unit {0})} (Some tt) (cond (leb (a + store_bytes kind) (length (memory_of b))) (Some tt) None)
+  stored_there = sym (cond-true _ _ _ (le-leb _ _ there.0))
+
+  module _ (after : b' ≡ put b k ys) where
+    pub stored_memory : memory_of b' ≡ cond (leb (a + store_bytes kind) (length (memory_of b))) (put (memory_of b) a ys) (memory_of b)
+    stored_memory =
+        ap memory_of after
+        ∙ ap (λ i. memory_of (put b i ys)) there.1
+        ∙ memory_put_above b ys a (omega (arith, room, there.1))
+        ∙ sym (cond-true _ _ _ (le-leb _ _ there.0))
+
+    pub stored_control : control_of b' ≡ control_of b
+    stored_control = ap control_of after ∙ control_put_above b ys k (omega (arith, there.1)) room
+
+    pub stored_mapped : Mapped b'
+    stored_mapped = subst Mapped (sym after) (mapped_put b ys k (omega (arith, there.1)) room m)
 
 -- A word that is fetched.
 module _ (m : List ℕ) (pc : ℕ) where

@@ -27,6 +27,7 @@ impl BlockMut<'_> {
     }
 
     /// Lends control frame `n`, which is behind the tables, to be written.
+    #[tactic(auto, using(crate::proofs::Sets::lending), unfolding(crate::specs::Frames::frame))]
     pub fn with_frame<R, F: FnOnce(&mut [u8]) -> R>(&mut self, n: usize, write: F) -> R
         requires behind { 2 ≤ n }
         requires control { n < 8 }
@@ -39,6 +40,7 @@ impl BlockMut<'_> {
     }
 
     /// Stores the low bytes of a number at an address, if the address is in memory.
+    #[tactic(auto, using(crate::proofs::Sets::storing))]
     pub fn store(&mut self, kind: StoreKind, address: u32, value: u32) -> Option<()>
         requires aligned { address % store_bytes kind ≡ 0 }
         ensures value { result ≡ (if nat_le (address + store_bytes kind) (length (memory_of self.old.bytes.now)) then Some tt else None) }

@@ -1,6 +1,7 @@
 -- A burst of instructions, one tick more at a time.
 use Rattle.std.proofs.Common.{◌≡◌, ℕ, ◌+◌, ◌*◌, ◌<◌, ◌≤◌, List, [], ◌∷◌, ◌++◌, length, take, drop, sym, refl, ap, ◌∙◌, append_assoc, arith}
 use Rattle.std.specs.List.{flat_map}
+use Rattle.std.proofs.lemmas.Grind.{flat_map-append}
 use Rattle.std.proofs.lemmas.List.{append-nil, length-append, take-append-drop}
 use Rattle.octets.specs.Bytes.{put, bytes_of}
 use Rattle.octets.proofs.Numbers.{length-bytes_of}
@@ -34,10 +35,6 @@ pub length-entries : (es : List (ℕ × ℕ)) → length (flat_map entry_bytes e
 length-entries [] = refl
 length-entries (e ∷ es) = omega (arith, length-append (entry_bytes e) (flat_map entry_bytes es), length_entry e, length-entries es)
 
-pub joined_append : (xs ys : List (ℕ × ℕ)) → flat_map entry_bytes (xs ++ ys) ≡ flat_map entry_bytes xs ++ flat_map entry_bytes ys
-joined_append [] ys = refl
-joined_append (x ∷ xs) ys = ap (λ zs. entry_bytes x ++ zs) (joined_append xs ys) ∙ sym (append_assoc (entry_bytes x) (flat_map entry_bytes xs) (flat_map entry_bytes ys))
-
 -- Entries written behind others.
 pub entries_behind :
     (z z₁ z₂ : List ℕ) (k j : ℕ) (xs ys : List (ℕ × ℕ)) → z₁ ≡ put z k (flat_map entry_bytes xs) → j ≡ k + 9 * length xs →
@@ -46,7 +43,7 @@ entries_behind z z₁ z₂ k j xs ys e g f room =
     f
     ∙ ap (λ w. put w j (flat_map entry_bytes ys)) e
     ∙ put-behind z (flat_map entry_bytes xs) (flat_map entry_bytes ys) k j (omega (arith, length-entries xs)) (omega (arith, length-entries ys))
-    ∙ ap (put z k) (sym (joined_append xs ys))
+    ∙ ap (put z k) (sym (flat_map-append entry_bytes xs ys))
 
 -- What is left of the slice behind entries.
 pub entries_room :

@@ -5,13 +5,13 @@ use Rattle.std.proofs.lemmas.List.{append-nil, length-append}
 use Rattle.cpu.specs.Core.{Core}
 use Rattle.cpu.specs.Rv32i.{rv32i}
 use Rattle.model.specs.declared.plan.Task.{Task}
-use Rattle.model.specs.declared.plan.State.{State}
 use Rattle.model.specs.declared.plan.State.TheVariants.{Ready, Waiting, Stopped}
 use Rattle.model.specs.World.{Run}
 use Rattle.model.specs.Tick.{is_ready, is_waiting, better, first_ready, looked, checked, woken, with_tasks, update, goes_on}
 use Rattle.memory.specs.Frames.{memory_of, frame, OnlyFrame}
 use Rattle.tasks.specs.Records.{run_at, task_at, runs_in, tasks_in}
 use Rattle.tasks.specs.Unheard.{heard_in}
+use Rattle.tasks.proofs.Looking.{ready_is}
 use Rattle.partition.specs.Block.{count_of, over, runs_of, tasks_of, part_of}
 use Rattle.partition.specs.Stretch.{part_ticks, looked_ticks, Busy}
 use Rattle.partition.specs.Shown.{Ran}
@@ -67,12 +67,6 @@ looked_part a b t s one only e =
 none_ready : (k : Task) (r : Run Core) → is_ready r.state ≡ false → first_ready (k ∷ []) 0 (r ∷ []) ≡ None
 unfolding first_ready better
 none_ready k r e = ap (λ f. better (k ∷ []) 0 f None) e
-
-ready_is : (s : State) → is_ready s ≡ true → s ≡ Ready
-unfolding is_ready
-ready_is Ready e = refl
-ready_is Waiting e = let z : ◌≡◌ {A = ℕ} 0 1 = cc in absurd (omega arith)
-ready_is Stopped e = let z : ◌≡◌ {A = ℕ} 0 1 = cc in absurd (omega arith)
 
 goes_self : (r : Run Core) → is_ready r.state ≡ true → goes_on r.core r ≡ r
 unfolding goes_on

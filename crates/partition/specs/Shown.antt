@@ -10,6 +10,10 @@ use Rattle.partition.specs.Stretch.{part_ticks}
 unfoldable pub entry_bytes : ℕ × ℕ → List ℕ
 entry_bytes e = bytes_of 8 e.0 ++ e.1 ∷ []
 
+-- There is room for n entries behind what was shown.
+abbrev pub HasRoom : Shown → ℕ → Type 0
+HasRoom z n = z.«at» + 9 * n ≤ length z.bytes.now
+
 -- In n own ticks from tick t on block b became b', and what was shown in them stands behind what z held, which became z'.
 pub record Ran (b b' : List ℕ) (z z' : Shown) (t n : ℕ) : Type 0 where
   pub entries : List (ℕ × ℕ)

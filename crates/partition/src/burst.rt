@@ -1,6 +1,7 @@
 //! A burst of instructions of one task, whose registers are at hand.
-ghost use Rattle.std.specs.Prelude.{◌≡◌, ◌+◌, ◌*◌, ◌<◌, ◌≤◌, length};
+ghost use Rattle.std.specs.Prelude.{◌≡◌, ◌<◌};
 ghost use Rattle.cpu.specs.Held.{core_of};
+ghost use Rattle.partition.specs.Shown.{HasRoom};
 ghost use Rattle.partition.specs.Steps.{Bursted};
 
 use crate::came::{Burst, Came};
@@ -18,7 +19,7 @@ pub(crate) fn burst(
     stretch: Stretch,
     shown: &mut Shown<'_>,
 ) -> Burst
-    requires room { shown.old.at + 9 * stretch.ticks ≤ length shown.old.bytes.now }
+    requires room { HasRoom shown.old stretch.ticks }
     ensures bursted { Bursted b.old.bytes.now b.new.bytes.now (core_of core.old) (core_of core.new) shown.old shown.new stretch.from stretch.ticks result }
     ensures some { 0 < stretch.ticks → 0 < result.ticks }
     ensures bytes { b.new.bytes.ghost_name ≡ b.old.bytes.ghost_name }

@@ -6,7 +6,7 @@ ghost use Rattle.memory.specs.Frames.{memory_of, frame, pages_of, Mapped, OnlyFr
 ghost use Rattle.tasks.specs.Unheard.{heard_in};
 ghost use Rattle.plan.specs.Views.{memory_of as memory_in, tasks_of as tasks_in};
 ghost use Rattle.partition.specs.Block.{count_of, part_of, tasks_of, Own};
-ghost use Rattle.partition.specs.Shown.{Ran};
+ghost use Rattle.partition.specs.Shown.{HasRoom, Ran};
 
 use crate::burst::burst;
 use crate::frames::{COUNT, TABLE, UNHEARD};
@@ -34,7 +34,9 @@ pub fn lay(b: &mut [u8], view: &View<'_>, q: u8)
     begin(&mut BlockMut { bytes: b }, view, q);
 }
 
+// A clause `bytes` says that the block is the same loan as before: so its lender learns what came back.
 /// A byte from outside comes, and is kept until it is heard, if there is a place for it.
+#[tactic(auto, using(crate::proofs::Sets::arriving))]
 pub fn arrive(b: &mut BlockMut<'_>, byte: u8)
     ensures part { (s : List (ℕ × ℕ)) → part_of b.new.bytes.now s ≡ hearing byte (part_of b.old.bytes.now s) }
     ensures plan { tasks_of b.new.bytes.now ≡ tasks_of b.old.bytes.now }
@@ -47,7 +49,7 @@ pub fn arrive(b: &mut BlockMut<'_>, byte: u8)
 /// Own ticks. What is shown is written behind what is shown already.
 pub fn own_ticks(b: &mut BlockMut<'_>, stretch: Stretch, shown: &mut Shown<'_>)
     requires few { count_of b.old.bytes.now ≤ 1 }
-    requires room { shown.old.at + 9 * stretch.ticks ≤ length shown.old.bytes.now }
+    requires room { HasRoom shown.old stretch.ticks }
     ensures ran { Ran b.old.bytes.now b.new.bytes.now shown.old shown.new stretch.from stretch.ticks }
     ensures bytes { b.new.bytes.ghost_name ≡ b.old.bytes.ghost_name }
 {
@@ -55,6 +57,7 @@ pub fn own_ticks(b: &mut BlockMut<'_>, stretch: Stretch, shown: &mut Shown<'_>)
         return;
     }
     let mut done = 0;
+    // Stays a `while`: a bout takes as many ticks as it can, one at least.
     while done < stretch.ticks {
         let left = Stretch {
             from: stretch.from + done,
@@ -77,6 +80,7 @@ fn fill(b: &mut [u8], memory: &[u8])
 }
 
 /// What stands in the control frames behind the tables at the start.
+#[tactic(auto, using(crate::proofs::Sets::beginning))]
 fn begin(b: &mut BlockMut<'_>, view: &View<'_>, q: u8)
     requires memory { memory_of b.old.bytes.now ≡ memory_in view.now q }
     requires one { length (tasks_in view.now q) ≤ 1 }
@@ -105,6 +109,7 @@ fn clear(b: &mut BlockMut<'_>)
 }
 
 /// So many tasks.
+#[tactic(auto, using(crate::proofs::Kept::count_written))]
 fn set_count(b: &mut BlockMut<'_>, n: u8)
     ensures value { count_of b.new.bytes.now ≡ n }
     ensures only { OnlyFrame 4 b.old.bytes.now b.new.bytes.now }
@@ -114,6 +119,7 @@ fn set_count(b: &mut BlockMut<'_>, n: u8)
 }
 
 /// How many tasks the partition has.
+#[tactic(auto, using(crate::proofs::Kept::count_is))]
 fn count(b: &BlockMut<'_>) -> u8
     ensures value { result ≡ count_of b.now.bytes.now }
 {
@@ -125,7 +131,7 @@ fn count(b: &BlockMut<'_>) -> u8
 fn bout(b: &mut BlockMut<'_>, stretch: Stretch, shown: &mut Shown<'_>) -> u64
     requires one { count_of b.old.bytes.now ≡ 1 }
     requires some { 0 < stretch.ticks }
-    requires room { shown.old.at + 9 * stretch.ticks ≤ length shown.old.bytes.now }
+    requires room { HasRoom shown.old stretch.ticks }
     ensures ran { Ran b.old.bytes.now b.new.bytes.now shown.old shown.new stretch.from result }
     ensures some { (0 < result) × (result ≤ stretch.ticks) }
     ensures bytes { b.new.bytes.ghost_name ≡ b.old.bytes.ghost_name }

@@ -1,5 +1,6 @@
 -- What writes of the parts of a record come to for the task.
-use Rattle.std.proofs.Common.{◌≡◌, ℕ, subst, refl, ap, ◌∙◌, arith}
+use Rattle.std.proofs.Common.{◌≡◌, ℕ, ◌+◌, length, List, ◌<◌, ◌*◌, refl, ap, ◌∙◌, arith}
+use Rattle.octets.specs.Bytes.{put, bytes_of}
 use Rattle.cpu.specs.Core.{Core}
 use Rattle.model.specs.declared.plan.State.TheVariants.{Ready, Waiting, Stopped}
 use Rattle.model.specs.World.{Run}
@@ -7,10 +8,11 @@ use Rattle.model.specs.Tick.{goes_on, waits, stops}
 use Rattle.tasks.specs.declared.code.Code.{Code}
 use Rattle.tasks.specs.declared.code.Code.TheVariants as code
 use Rattle.tasks.specs.declared.record_mut.RecordMut.{RecordMut}
-use Rattle.tasks.specs.Records.{state_in, late_in, Others}
+use Rattle.tasks.specs.Records.{run_at, state_in, late_in}
 use Rattle.tasks.specs.Codes.{number_of, state_of, late_of}
 use Rattle.tasks.specs.Lent.{Kept}
-use Rattle.tasks.proofs.Records.{others_then, others_none}
+use Rattle.tasks.proofs.Records.{others_none}
+use Rattle.tasks.proofs.Parts.{state_run}
 
 -- What the number of a code says is what the code says.
 pub code_state : (c : Code) → state_in (number_of c) ≡ state_of c
@@ -27,15 +29,22 @@ code_late code.Waiting n = omega arith
 code_late code.Stopped n = omega arith
 code_late code.StoppedLate n = omega arith
 
--- One change of a record after another, and none.
-pub kept_then : {a b c : RecordMut} → Kept a b → Kept b c → Kept a c
-kept_then {a} {b} {c} p q =
+-- The number of a code was written, and how often the task was late.
+pub coded :
+    (t t₁ t₂ : List ℕ) (i n late : ℕ) (c : Code) → length t ≡ 4096 → i < 16 → t₁ ≡ put t (256 * i) (bytes_of 1 n) → t₂ ≡ put t₁ (256 * i + 1) (bytes_of 1 late)
+    → n ≡ number_of c → n < 256 → late < 256
+    → run_at t₂ i ≡ record { state = state_of c; core = (run_at t i).core; began = (run_at t i).began; late = late_of c late }
+coded t t₁ t₂ i n late c size below e₁ e₂ is fits₁ fits₂ =
+    state_run t t₁ t₂ i n late size below e₁ e₂ fits₁ fits₂
+    ∙ (λ j.
     record {
-      table = q.table ∙ p.table;
-      number = q.number ∙ p.number;
-      others = others_then p.others (subst (λ n. Others n b.table.now c.table.now) p.number q.others);
-    }
+      state = (ap state_in is ∙ code_state c) j;
+      core = (run_at t i).core;
+      began = (run_at t i).began;
+      late = (ap (λ m. late_in m late) is ∙ code_late c late) j;
+    })
 
+-- A record that nothing changed.
 pub kept_none : (a : RecordMut) → Kept a a
 kept_none a = record { table = refl; number = refl; others = others_none a.number a.table.now }
 

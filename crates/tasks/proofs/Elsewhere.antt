@@ -1,5 +1,5 @@
 -- What a write into a part of the table leaves: all that is read outside of it.
-use Rattle.std.proofs.Common.{◌≡◌, ℕ, ◌+◌, ◌≤◌, ◌⊎◌, List, length, refl, ap, ◌∙◌, inl, inr, ⊎_elim, arith}
+use Rattle.std.proofs.Common.{◌≡◌, ℕ, ◌+◌, ◌≤◌, ◌⊎◌, List, length, ap, ◌∙◌, inl, inr, ⊎_elim, arith}
 use Rattle.octets.specs.Bytes.{put, bytes_of, at}
 use Rattle.octets.proofs.Numbers.{length-bytes_of}
 use Rattle.octets.proofs.Puts.{length-put}
@@ -9,9 +9,6 @@ use Rattle.tasks.proofs.Written.{at_other}
 pub record Outside (from to : ℕ) (a b : List ℕ) : Type 0 where
   pub long : length b ≡ length a
   pub same : (n j : ℕ) → (j + n ≤ from) ⊎ (to ≤ j) → at n b j ≡ at n a j
-
-pub outside_none : (from to : ℕ) (a : List ℕ) → Outside from to a a
-outside_none from to a = record { long = refl; same = λ n j o. refl }
 
 pub outside_then : {from to : ℕ} {a b c : List ℕ} → Outside from to a b → Outside from to b c → Outside from to a c
 outside_then p q = record { long = q.long ∙ p.long; same = λ n j o. q.same n j o ∙ p.same n j o }

@@ -3,5 +3,6 @@ pub mod Elsewhere
 pub mod Looking
 pub mod Parts
 pub mod Records
+pub mod Sets
 pub mod Unheard
 pub mod Written

@@ -1,5 +1,5 @@
 -- What becomes of a task, case by case, and for how long nothing does.
-use Rattle.std.proofs.Common.{◌≡◌, ℕ, suc, ◌+◌, ◌-◌, ◌^◌, ◌<◌, ◌≤◌, Bool, true, false, cond, ◌&&◌, leb, sym, refl, ap, ◌∙◌, ⊎_elim, arith}
+use Rattle.std.proofs.Common.{◌≡◌, ℕ, suc, ◌+◌, ◌-◌, ◌^◌, ◌<◌, ◌≤◌, true, false, cond, ◌&&◌, leb, sym, refl, ap, ◌∙◌, ⊎_elim, arith}
 use Rattle.std.proofs.lemmas.Bool.{cond-true, cond-false, and_left, and_right, and_from, lt-leb, le-leb, cases_lt}
 use Rattle.cpu.specs.Core.{Core}
 use Rattle.cpu.specs.Rv32i.{rv32i}
@@ -100,14 +100,6 @@ module _ (k : Task) (t : ℕ) (r : Run Core) where
   checked_began = elim (is_ready r.state && leb (r.began + k.deadline) t)
       as (λ b. (cond b (record { state = cond (leb k.lates r.late) Stopped Waiting; core = r.core; began = r.began; late = suc r.late }) r).began ≡ r.began)
       [ true ↦ refl | false ↦ refl ]
-
--- What was read in parts is what the task has.
-pub over_is :
-    (time began b ticks n : ℕ) (o v : Bool) → o ≡ leb (began + ticks) time → o ≡ v → began ≡ b → ticks ≡ n → leb (b + n) time ≡ v
-over_is time began b ticks n o v e ev eb et = sym (e ∙ ap (λ x. leb (x + ticks) time) eb ∙ ap (λ x. leb (b + x) time) et) ∙ ev
-
-pub before_is : (time began b ticks n x : ℕ) → x ≡ before time began ticks → began ≡ b → ticks ≡ n → x ≡ before time b n
-before_is time began b ticks n x e eb et = e ∙ ap (λ y. before time y ticks) eb ∙ ap (before time b) et
 
 -- For how long a task stays, state by state.
 module _ (k : Task) (time : ℕ) (r : Run Core) where

@@ -2,11 +2,10 @@
 use Rattle.std.proofs.Common.{◌≡◌, ℕ, zero, suc, ◌+◌, ◌*◌, ◌<◌, ◌≤◌, true, false, cond, eqb, ◌⊎◌, List, [], ◌∷◌, map, length, get_or, set, sym, refl, ap, ◌∙◌, inl, inr, ⊎_elim, arith}
 use Rattle.std.specs.List.{range_with_len}
 use Rattle.std.proofs.lemmas.List.FromFn.{fill_by_all, length-map-range_with_len, get_or-map-range_with_len}
-use Rattle.std.proofs.lemmas.List.Edits.{fill_by_more}
 use Rattle.std.proofs.lemmas.Bool.{cases_order, cases_eq, cases_Bool, eqb-true, ne_eqb, cond-false}
 use Rattle.octets.specs.Bytes.{at}
 use Rattle.cpu.specs.Core.{Core}
-use Rattle.model.specs.declared.plan.State.TheVariants.{Ready, Waiting, Stopped}
+use Rattle.model.specs.declared.plan.State.TheVariants.{Stopped}
 use Rattle.model.specs.declared.plan.Task.{Task}
 use Rattle.model.specs.World.{Run}
 use Rattle.model.specs.Tick.{update}
@@ -85,14 +84,6 @@ pub others_none : (i : ℕ) (a : List ℕ) → Others i a a
 others_none i a = record { run = λ j ne h. refl; plan = λ j ne h. refl }
 
 -- A state by its code.
-pub state_ready : (c : ℕ) → c ≡ 0 → Ready ≡ state_in c
-unfolding state_in
-state_ready c e = sym (ap state_in e)
-
-pub state_waiting : (c : ℕ) → c ≡ 1 → Waiting ≡ state_in c
-unfolding state_in
-state_waiting c e = sym (ap state_in e)
-
 pub state_stopped : (c : ℕ) → (c ≡ 0 → ⊥) → (c ≡ 1 → ⊥) → Stopped ≡ state_in c
 unfolding state_in
 state_stopped c p q = sym (cond-false _ _ _ (ne_eqb c 0 p) ∙ cond-false _ _ _ (ne_eqb c 1 q))
@@ -108,10 +99,6 @@ late_going c n h =
 -- The registers in their places.
 pub registers_read : (x : List ℕ) (f : ℕ → ℕ) → length x ≡ 32 → ((k : ℕ) → k < 32 → get_or x k 0 ≡ f k) → set x 0 0 ≡ 0 ∷ map f (range_with_len 1 31)
 registers_read x f e h = ap (λ z. set z 0 0) (fill_by_all f x 32 0 e h)
-
-pub register_read :
-    (x : List ℕ) (f : ℕ → ℕ) (r v : ℕ) → r < length x → v ≡ f r → ((k : ℕ) → k < r → get_or x k 0 ≡ f k) → (k : ℕ) → k < r + 1 → get_or (set x r v) k 0 ≡ f k
-register_read x f r v l e h k u = ap (λ y. get_or (set x r y) k 0) e ∙ fill_by_more f x r 0 l h k u
 
 pub registers_written : (x : List ℕ) (f : ℕ → ℕ) → length x ≡ 32 → get_or x 0 0 ≡ 0 → ((k : ℕ) → k < 32 → f k ≡ get_or x k 0) → 0 ∷ map f (range_with_len 1 31) ≡ x
 registers_written x f e z h =

@@ -142,3 +142,10 @@ first_none bs e = ap first_heard e
 pub place_first : (h n : ℕ) → n ≡ h → n < 1024 → place_of h 0 ≡ 1024 + n
 unfolding place_of
 place_first h n e l = omega arith
+
+-- The byte that is heard.
+pub heard_byte :
+    (r : List ℕ) (h n : ℕ) → length r ≡ 4096 → h ≡ head_in r → n ≡ count_in r → 0 < n → n ≤ 1024 → h < 1024
+    → first_heard (heard_in r) ≡ get_or r (1024 + h) 0
+heard_byte r h n e eh en some most lt =
+    first_is (heard_in r) _ _ (heard_one r h n e eh en some most) ∙ ap (λ p. get_or r p 0) (place_first (head_in r) h eh lt)

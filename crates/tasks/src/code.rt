@@ -27,6 +27,7 @@ impl From<Code> for u8 {
 impl From<u8> for Code {
     ghost from_gives = { λ n code. state_of code ≡ state_in n };
 
+    #[tactic(auto, unfolding(crate::specs::Records::state_in))]
     fn from(n: u8) -> Code {
         match n {
             0 => Code::Ready,

@@ -10,6 +10,7 @@ use crate::code::Code;
 use cpu::registers::Registers;
 use model::plan::{State, Task};
 
+// Records stay bytes of a lent frame: fixed memory, no heap on the kernel's side.
 /// How many bytes a record has.
 pub(crate) const RECORD: usize = 256;
 
@@ -30,6 +31,7 @@ pub(crate) const DEADLINE: usize = 24;
 
 pub(crate) const REGISTERS: usize = 128;
 
+// Stays beside `RecordMut`, as it is read where only a `&` is at hand: no type is generic over the kind of loan.
 /// A task's record in a lent table, by its number.
 #[derive(Clone, Copy)]
 pub struct Record<'a> {
@@ -39,6 +41,7 @@ pub struct Record<'a> {
     ghost below: { number < 16 },
 }
 
+#[tactic(auto, unfolding(crate::specs::Records::run_at, crate::specs::Records::task_at))]
 impl<'a> Record<'a> {
     ghost use Rattle.tasks.specs.Lent.{run_in, task_in};
 
@@ -60,6 +63,7 @@ impl<'a> Record<'a> {
     }
 
     /// How often the task, which is not stopped, has been late.
+    #[tactic(auto, using(crate::proofs::Records::late_going), unfolding(crate::specs::Records::run_at))]
     pub(crate) fn late(&self) -> u8
         requires going { (run_in self.now).state ≢ Stopped }
         ensures value { result ≡ (run_in self.now).late }
@@ -98,14 +102,15 @@ impl<'a> Record<'a> {
     }
 
     /// Whether the task may do an instruction.
-    #[tactic(auto, using(crate::proofs::Looking::ready_true, crate::proofs::Looking::ready_false))]
+    #[tactic(auto, using(crate::proofs::Sets::readiness))]
     pub fn is_ready(&self) -> bool
         ensures value { result ≡ is_ready (run_in self.now).state }
     {
-        matches!(self.state(), State::Ready)
+        self.state() == State::Ready
     }
 
     /// For how many ticks from this time on the task stays as it is, when it is looked at in each.
+    #[tactic(auto, using(crate::proofs::Sets::staying))]
     pub fn until(&self, time: u64) -> u64
         ensures value { result ≡ stays (task_in self.now) time (run_in self.now) }
         ensures still { (k : ℕ) → k < result → checked (task_in self.now) (time + k) (woken rv32i (task_in self.now) self.now.number (time + k) (run_in self.now)) ≡ run_in self.now }
@@ -120,6 +125,7 @@ impl<'a> Record<'a> {
 }
 
 /// How many ticks from this time on lie before so many have passed since a beginning.
+#[tactic(auto, unfolding(crate::specs::Records::before))]
 fn left(began: u64, ticks: u32, time: u64) -> u64
     ensures value { result ≡ before time began ticks }
 {

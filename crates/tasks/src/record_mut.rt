@@ -73,15 +73,16 @@ impl<'a> RecordMut<'a> {
     }
 
     /// A waiting task begins anew when its period is over.
+    #[tactic(auto, using(crate::proofs::Sets::waking))]
     fn wake(&mut self, time: u64)
         ensures run { run_of self.new ≡ woken rv32i (task_of self.old) self.old.number time (run_of self.old) }
         ensures plan { task_of self.new ≡ task_of self.old }
         ensures kept { Kept self.old self.new }
     {
         let record = self.record();
-        let State::Waiting = record.state() else {
+        if record.state() != State::Waiting {
             return;
-        };
+        }
         let began = record.began();
         let period = record.plan().period;
         if !is_over(began, period, time) {
@@ -94,15 +95,16 @@ impl<'a> RecordMut<'a> {
     }
 
     /// A ready task whose deadline has come is late once more.
+    #[tactic(auto, using(crate::proofs::Sets::checking))]
     fn check(&mut self, time: u64)
         ensures run { run_of self.new ≡ checked (task_of self.old) time (run_of self.old) }
         ensures plan { task_of self.new ≡ task_of self.old }
         ensures kept { Kept self.old self.new }
     {
         let record = self.record();
-        let State::Ready = record.state() else {
+        if record.state() != State::Ready {
             return;
-        };
+        }
         let plan = record.plan();
         if !is_over(record.began(), plan.deadline, time) {
             return;
@@ -116,6 +118,7 @@ impl<'a> RecordMut<'a> {
     }
 
     /// The task, which is ready, goes on with this core.
+    #[tactic(auto, using(crate::proofs::Sets::going))]
     pub fn go_on(&mut self, core: Registers)
         requires ready { is_ready (run_of self.old).state ≡ true }
         ensures run { run_of self.new ≡ goes_on (core_of core) (run_of self.old) }
@@ -126,6 +129,7 @@ impl<'a> RecordMut<'a> {
     }
 
     /// The task waits with this core for its next period, and has not been late any more.
+    #[tactic(auto, using(crate::proofs::Sets::waiting))]
     pub fn wait(&mut self, core: Registers)
         ensures run { run_of self.new ≡ waits (core_of core) (run_of self.old) }
         ensures plan { task_of self.new ≡ task_of self.old }
@@ -136,6 +140,7 @@ impl<'a> RecordMut<'a> {
     }
 
     /// The task, which is ready, does nothing more; its core stays.
+    #[tactic(auto, using(crate::proofs::Sets::stopping))]
     pub fn stop(&mut self)
         requires ready { is_ready (run_of self.old).state ≡ true }
         ensures run { run_of self.new ≡ stops (run_of self.old) }
@@ -147,6 +152,7 @@ impl<'a> RecordMut<'a> {
     }
 
     /// Writes the code of the state, and how often the task was late.
+    #[tactic(auto, using(crate::proofs::Sets::coding))]
     fn set_state(&mut self, code: Code, late: u8)
         ensures run { run_of self.new ≡ record { state = state_of code; core = (run_of self.old).core; began = (run_of self.old).began; late = late_of code late } }
         ensures plan { task_of self.new ≡ task_of self.old }
@@ -157,6 +163,7 @@ impl<'a> RecordMut<'a> {
     }
 
     /// Writes when the task last began.
+    #[tactic(auto, using(crate::proofs::Sets::beginning))]
     fn set_began(&mut self, began: u64)
         ensures run { run_of self.new ≡ record { state = (run_of self.old).state; core = (run_of self.old).core; began = began; late = (run_of self.old).late } }
         ensures plan { task_of self.new ≡ task_of self.old }
@@ -166,6 +173,7 @@ impl<'a> RecordMut<'a> {
     }
 
     /// Writes the task's core.
+    #[tactic(auto, using(crate::proofs::Sets::registering))]
     fn set_core(&mut self, core: Registers)
         ensures run { run_of self.new ≡ record { state = (run_of self.old).state; core = core_of core; began = (run_of self.old).began; late = (run_of self.old).late } }
         ensures plan { task_of self.new ≡ task_of self.old }
@@ -179,6 +187,7 @@ impl<'a> RecordMut<'a> {
     }
 
     /// Writes the task's plan.
+    #[tactic(auto, using(crate::proofs::Sets::planning))]
     fn set_plan(&mut self, plan: Task)
         ensures plan { task_of self.new ≡ plan }
         ensures kept { Kept self.old self.new }

@@ -30,6 +30,7 @@ impl<'a> Ring<'a> {
     }
 
     /// Where the first byte is, counted from the first place, round and round.
+    #[tactic(auto, unfolding(crate::specs::Unheard::head_in))]
     fn head(&self) -> usize
         ensures value { result ≡ head_in self.now.frame.now }
         ensures below { result < 1024 }
@@ -38,6 +39,7 @@ impl<'a> Ring<'a> {
     }
 
     /// How many bytes there are.
+    #[tactic(auto, unfolding(crate::specs::Unheard::count_in))]
     fn count(&self) -> usize
         ensures value { result ≡ count_in self.now.frame.now }
         ensures most { result ≤ 1024 }
@@ -46,6 +48,7 @@ impl<'a> Ring<'a> {
     }
 
     /// None is left.
+    #[tactic(auto, using(crate::proofs::Unheard::cleared))]
     pub fn clear(&mut self)
         ensures heard { heard_in self.new.frame.now ≡ [] }
         ensures frame { self.new.frame.ghost_name ≡ self.old.frame.ghost_name }
@@ -54,6 +57,7 @@ impl<'a> Ring<'a> {
     }
 
     /// One more has come; it is lost if there are as many as are kept.
+    #[tactic(auto, using(crate::proofs::Sets::arriving), unfolding(crate::specs::Unheard::place_of))]
     pub fn arrive(&mut self, byte: u8)
         ensures heard { heard_in self.new.frame.now ≡ (if nat_lt (length (heard_in self.old.frame.now)) 1024 then heard_in self.old.frame.now ++ byte ∷ [] else heard_in self.old.frame.now) }
         ensures frame { self.new.frame.ghost_name ≡ self.old.frame.ghost_name }
@@ -68,6 +72,7 @@ impl<'a> Ring<'a> {
     }
 
     /// The byte that came first, which is then heard; `None` if there is none.
+    #[tactic(auto, using(crate::proofs::Sets::hearing))]
     pub fn hear(&mut self) -> Option<u8>
         ensures value { MatchOption result (first_heard (heard_in self.old.frame.now) ≡ 4294967295) (λ b. first_heard (heard_in self.old.frame.now) ≡ b) }
         ensures heard { heard_in self.new.frame.now ≡ drop 1 (heard_in self.old.frame.now) }
