@@ -10,6 +10,7 @@ use crate::tables::{CONTROL, ENTRY, FRAME};
 use cpu::access::{finish, read};
 use decode::instruction::LoadKind;
 
+// Stays beside `BlockMut`, as it is read where only a `&` is at hand: no type is generic over the kind of loan.
 /// A block that is lent to be read: its tables map each page of its memory, and nothing else.
 #[derive(Clone, Copy)]
 pub struct Block<'a> {

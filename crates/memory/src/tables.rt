@@ -11,6 +11,7 @@ pub(crate) const FRAME: usize = 4096;
 /// Bytes of the control frames.
 pub const CONTROL: usize = 32768;
 
+// Tables stay numbers in lent frames: fixed memory, as the machine's are, and no heap on the kernel's side.
 /// Bytes of an entry of a table.
 pub(crate) const ENTRY: usize = 4;
 
@@ -42,6 +43,7 @@ fn write_table<F: Fn(usize) -> u32>(t: &mut [u8], entry: F)
     requires may { (i : ℕ) → i < 1024 → F.pre entry i }
     ensures entries { (i : ℕ) → i < 1024 → F.post entry i (at 4 t.new (4 * i)) }
 {
+    // Stays a range: tried by `chunks_exact_mut`, after which a proof knows the length alone.
     for i in 0..ENTRIES {
         octets::write(t, ENTRY * i, entry(i));
     }

@@ -1,6 +1,7 @@
 //! What instructions come to.
 use model::plan::State;
 
+// Stays an enum: what an instruction comes to has data.
 /// What an instruction comes to for the task that did it.
 #[derive(Clone, Copy)]
 pub(crate) enum Came {

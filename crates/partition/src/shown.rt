@@ -6,6 +6,7 @@ ghost use Rattle.partition.specs.Shown.{entry_bytes};
 /// The bytes of an entry for a shown byte.
 const ENTRY: usize = 9;
 
+// Stays a lent slice with how far it is filled: no heap on the kernel's side, and whoever lends it says how long it is.
 /// A lent slice, and up to where it holds what was shown: the next entry goes there.
 #[derive(Drop)]
 pub struct Shown<'a> {

@@ -10,6 +10,7 @@ use crate::code::Code;
 use cpu::registers::Registers;
 use model::plan::{State, Task};
 
+// Records stay bytes of a lent frame: fixed memory, no heap on the kernel's side.
 /// How many bytes a record has.
 pub(crate) const RECORD: usize = 256;
 
@@ -30,6 +31,7 @@ pub(crate) const DEADLINE: usize = 24;
 
 pub(crate) const REGISTERS: usize = 128;
 
+// Stays beside `RecordMut`, as it is read where only a `&` is at hand: no type is generic over the kind of loan.
 /// A task's record in a lent table, by its number.
 #[derive(Clone, Copy)]
 pub struct Record<'a> {
