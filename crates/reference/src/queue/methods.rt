@@ -10,6 +10,7 @@ use arrayvec::ArrayVec;
 use cpu::call::Answer;
 use model::plan::Channel;
 
+// That the plan stays is said of each method: a ghost field speaks of one value, and not of before and after.
 impl Queue {
     /// An empty channel, if its plan is in bounds: messages of up to 1,024 bytes, and up to 64 places.
     pub fn new(plan: Channel) -> Option<Queue>
