@@ -130,9 +130,9 @@ pub const CASES: [Case; 4] = [SHOWS_CLOCK, KEEPS_LAST, GOES_FIRST, HAS_ONE_PLACE
 
 /// Writes words into memory from an address on, as far as it goes.
 fn put_words(memory: &mut [u8], address: usize, words: &[u32]) {
-    for (i, w) in words.iter().enumerate() {
-        if address < memory.len() && i < (memory.len() - address) / 4 {
-            octets::write(memory, address + 4 * i, *w);
+    if address <= memory.len() {
+        for (place, word) in memory[address..].chunks_exact_mut(4).zip(words) {
+            octets::write(place, 0, *word);
         }
     }
 }
