@@ -1,19 +1,16 @@
 -- A table that is written entry by entry, and tables that were written one after the other.
-use Rattle.std.proofs.Common.{◌≡◌, ℕ, ◌+◌, ◌*◌, ◌<◌, ◌≤◌, List, ◌++◌, length, take, drop, length-append, sym, subst, ap, ◌∙◌, arith, below_more}
+use Rattle.std.proofs.Common.{◌≡◌, ℕ, ◌+◌, ◌*◌, ◌<◌, ◌≤◌, List, ◌++◌, length, take, drop, length-append, sym, subst, ap, ◌∙◌, inl, arith, below_more}
 use Rattle.std.specs.List.{between}
 use Rattle.std.proofs.lemmas.List.{length-drop, length-take-le, drop-drop}
 use Rattle.std.proofs.lemmas.Slice.{drop-append-drop}
 use Rattle.std.proofs.Math.Seq.{take-append_seam}
 use borrow.Rule.Slice.PartMut.{put_mid}
-use Rattle.octets.specs.Bytes.{put, number, bytes_of, at}
-use Rattle.octets.proofs.Numbers.{length-bytes_of, number-bytes_of}
-use Rattle.octets.proofs.Puts.{put_is, length-put, between_put}
+use Rattle.octets.specs.Bytes.{put, bytes_of, at}
+use Rattle.octets.proofs.Numbers.{length-bytes_of}
+use Rattle.octets.proofs.Puts.{put_is, length-put}
+use Rattle.octets.proofs.Written.{at-put, at-put_other}
 use Rattle.memory.specs.Frames.{memory_of, frame, pages_of, root_entry, leaf_entry, Mapped}
-use Rattle.memory.proofs.Frames.{at-put-before, at_take, drop-put, at-frame, frame_put-whole, pages_kept}
-
-at-put-same : (b : List ℕ) (k v : ℕ) → k + 4 ≤ length b → v < 4294967296 → at 4 (put b k (bytes_of 4 v)) k ≡ v
-unfolding at
-at-put-same b k v h small = ap number (between_put b (bytes_of 4 v) k 4 (omega (arith, length-bytes_of 4 v)) (length-bytes_of 4 v)) ∙ number-bytes_of 4 v small
+use Rattle.memory.proofs.Frames.{at_take, drop-put, at-frame, frame_put-whole, pages_kept}
 
 -- One more entry of a table, behind those of which P holds.
 pub entries_more :
@@ -23,9 +20,9 @@ entries_more t t' i v P after room small here done =
     below_more (λ j. P j (at 4 t' (4 * j))) i
     (λ j h.
     subst (P j)
-    (sym (ap (λ xs. at 4 xs (4 * j)) after ∙ at-put-before 4 t (bytes_of 4 v) (4 * i) (4 * j) (omega arith) (omega (arith, length-bytes_of 4 v))))
+    (sym (ap (λ xs. at 4 xs (4 * j)) after ∙ at-put_other 4 t (bytes_of 4 v) (4 * i) (4 * j) (omega (arith, length-bytes_of 4 v)) (inl (omega (arith, length-bytes_of 4 v)))))
     (done j h))
-    (subst (P i) (sym (ap (λ xs. at 4 xs (4 * i)) after ∙ at-put-same t (4 * i) v room small)) here)
+    (subst (P i) (sym (ap (λ xs. at 4 xs (4 * i)) after ∙ at-put 4 t (4 * i) v room small)) here)
 
 deeper : (n m : ℕ) (a b : List ℕ) → drop n b ≡ drop n a → drop (n + m) b ≡ drop (n + m) a
 deeper n m a b e = sym (drop-drop m n b) ∙ ap (drop m) e ∙ drop-drop m n a
@@ -71,7 +68,7 @@ module _ (a root : List ℕ) (lr : length root ≡ 4096) (whole : length a ≡ 3
     root_same : (k : ℕ) → k + 4 ≤ 4096 → at 4 both k ≡ at 4 root k
     root_same k h =
         ap (λ xs. at 4 xs k) both_is
-        ∙ at-put-before 4 rooted leaf 4096 k h (omega (arith, long_rooted))
+        ∙ at-put_other 4 rooted leaf 4096 k (omega (arith, long_rooted)) (inl h)
         ∙ sym (at_take 4 4096 rooted k h)
         ∙ ap (λ xs. at 4 xs k) front_rooted
 

@@ -5,6 +5,7 @@ use Rattle.std.proofs.lemmas.List.{places, same_lists, drop-drop, length-take-le
 use Rattle.std.proofs.lemmas.Slice.{between_is}
 use Rattle.octets.specs.Bytes.{put, number, at}
 use Rattle.octets.proofs.Puts.{put_is, length-put, between_put, between-put_other}
+use Rattle.octets.proofs.Written.{at-put_other}
 use borrow.Rule.Slice.PartMut.{put_mid}
 use Rattle.std.proofs.lemmas.Bool.{cases_lt, cases_eq}
 use Rattle.memory.specs.Frames.{control_of, memory_of, frame, pages_of, leaf_entry, Mapped, OnlyFrame}
@@ -26,10 +27,6 @@ take-put_in b ys n k h l = same_lists _ _ (search (rules, places)) (λ i d m. gr
 pub drop-put_in : (b ys : List ℕ) (n k : ℕ) → n + k + length ys ≤ length b → drop n (put b (n + k) ys) ≡ put (drop n b) k ys
 unfolding put
 drop-put_in b ys n k h = same_lists _ _ (search (rules, places)) (λ i d m. grind (arith, places))
-
-pub at-put-before : (m : ℕ) (b ys : List ℕ) (k j : ℕ) → j + m ≤ k → k + length ys ≤ length b → at m (put b k ys) j ≡ at m b j
-unfolding at
-at-put-before m b ys k j h l = ap number (between-put_other b ys k j m l (inl h))
 
 -- ---- the two parts
 
@@ -165,7 +162,7 @@ mapped_kept a b e l m = mapped_from a b l (λ k h. sym (at_control 4 b k (omega 
 
 -- A write behind the tables keeps them.
 pub mapped_put : (b ys : List ℕ) (k : ℕ) → 8192 ≤ k → k + length ys ≤ length b → Mapped b → Mapped (put b k ys)
-mapped_put b ys k h l m = mapped_from b (put b k ys) (length-put b ys k l) (λ j i. at-put-before 4 b ys k j (omega arith) l) m
+mapped_put b ys k h l m = mapped_from b (put b k ys) (length-put b ys k l) (λ j i. at-put_other 4 b ys k j l (inl (omega arith))) m
 
 -- ---- a control frame behind the tables that was lent, and came back as f
 

@@ -3,7 +3,7 @@ use Rattle.std.proofs.Common.{◌≡◌, ℕ, ◌<◌, List, sym, refl, ap, ◌�
 use Rattle.octets.specs.Bytes.{put, bytes_of, at}
 use Rattle.memory.specs.Frames.{frame, Mapped, OnlyFrame}
 use Rattle.memory.proofs.Frames.{at-frame, length-frame}
-use Rattle.tasks.proofs.Written.{at-put}
+use Rattle.octets.proofs.Written.{at-put}
 use Rattle.partition.specs.Block.{count_of, TableKept}
 
 -- How many tasks there are is said in frame 4.

@@ -3,7 +3,7 @@ use Rattle.std.proofs.Common.{◌≡◌, ℕ, ◌+◌, ◌≤◌, ◌⊎◌, Lis
 use Rattle.octets.specs.Bytes.{put, bytes_of, at}
 use Rattle.octets.proofs.Numbers.{length-bytes_of}
 use Rattle.octets.proofs.Puts.{length-put}
-use Rattle.tasks.proofs.Written.{at_other}
+use Rattle.octets.proofs.Written.{at-put_other}
 
 -- Numbers that lie before a place, or from another on, are the same.
 pub record Outside (from to : ℕ) (a b : List ℕ) : Type 0 where
@@ -21,7 +21,7 @@ outside_put from to a b n k v e h l u =
       same =
           λ m j o.
           ap (λ z. at m z j) e
-          ∙ at_other m a (bytes_of n v) k j (omega arith) (⊎_elim (λ (p : j + m ≤ from). inl (omega arith)) (λ (p : to ≤ j). inr (omega arith)) o);
+          ∙ at-put_other m a (bytes_of n v) k j (omega arith) (⊎_elim (λ (p : j + m ≤ from). inl (omega arith)) (λ (p : to ≤ j). inr (omega arith)) o);
     }
 
 pub outside_wider : (from to from' to' : ℕ) (a b : List ℕ) → from' ≤ from → to ≤ to' → Outside from to a b → Outside from' to' a b

@@ -3,7 +3,7 @@ use Rattle.std.proofs.Common.{◌≡◌, ℕ, ◌+◌, ◌*◌, ◌^◌, ◌<◌
 use Rattle.octets.specs.Bytes.{put, bytes_of, at}
 use Rattle.model.specs.declared.plan.Task.{Task}
 use Rattle.tasks.specs.Records.{core_at, run_at, task_at, state_in, late_in, Others}
-use Rattle.tasks.proofs.Written.{at-put}
+use Rattle.octets.proofs.Written.{at-put}
 use Rattle.tasks.proofs.Elsewhere.{Outside, outside_put, outside_then, outside_wider}
 use Rattle.tasks.proofs.Records.{core_is, core_same, run_is, task_is, task_same, others_within, others_then, registers_written}
 

@@ -9,7 +9,8 @@ use Rattle.octets.proofs.Numbers.{length-bytes_of}
 use Rattle.octets.proofs.Puts.{length-put, get_or-put_above}
 use Rattle.model.specs.Tick.{first_heard}
 use Rattle.tasks.specs.Unheard.{head_in, count_in, place_of, heard_in}
-use Rattle.tasks.proofs.Written.{map_same, map_next, at-put, at_other, at-set_below}
+use Rattle.octets.proofs.Written.{at-put, at-put_other}
+use Rattle.tasks.proofs.Written.{map_same, map_next, at-set_below}
 
 pub length-heard : (r : List ℕ) → length (heard_in r) ≡ count_in r
 unfolding heard_in
@@ -75,7 +76,7 @@ head_count_put : (r : List ℕ) (v : ℕ) → length r ≡ 4096 → head_in (put
 unfolding head_in
 head_count_put r v e =
     let l = length-bytes_of 4 v in
-    ap (λ n. n % 1024) (at_other 4 r (bytes_of 4 v) 4 0 (omega arith) (inl (omega arith)))
+    ap (λ n. n % 1024) (at-put_other 4 r (bytes_of 4 v) 4 0 (omega arith) (inl (omega arith)))
 
 count_count_put : (r : List ℕ) (v : ℕ) → length r ≡ 4096 → v ≤ 1024 → count_in (put r 4 (bytes_of 4 v)) ≡ v
 unfolding count_in

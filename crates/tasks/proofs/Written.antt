@@ -1,20 +1,12 @@
--- What is read after a write: at its place what was written, and elsewhere what was there.
-use Rattle.std.proofs.Common.{◌≡◌, ℕ, zero, suc, ◌+◌, ◌^◌, ◌<◌, ◌≤◌, ◌⊎◌, List, [], ◌∷◌, map, length, set, refl, ap, ◌∙◌, inl, arith}
+-- What is read after one byte is written, and lists made from functions.
+use Rattle.std.proofs.Common.{◌≡◌, ℕ, zero, suc, ◌+◌, ◌<◌, ◌≤◌, List, [], ◌∷◌, map, length, set, refl, ap, ◌∙◌, inl, arith}
 use Rattle.std.specs.List.{range_with_len}
-use Rattle.octets.specs.Bytes.{put, number, bytes_of, at}
-use Rattle.octets.proofs.Numbers.{number-bytes_of, length-bytes_of}
-use Rattle.octets.proofs.Puts.{between_put, between-put_other, set-put}
-
-pub at-put : (n : ℕ) (xs : List ℕ) (k v : ℕ) → k + n ≤ length xs → v < 256 ^ n → at n (put xs k (bytes_of n v)) k ≡ v
-unfolding at
-at-put n xs k v h lt = ap number (between_put xs (bytes_of n v) k n (omega (arith, length-bytes_of n v)) (length-bytes_of n v)) ∙ number-bytes_of n v lt
-
-pub at_other : (m : ℕ) (xs ys : List ℕ) (k j : ℕ) → k + length ys ≤ length xs → (j + m ≤ k) ⊎ (k + length ys ≤ j) → at m (put xs k ys) j ≡ at m xs j
-unfolding at
-at_other m xs ys k j h o = ap number (between-put_other xs ys k j m h o)
+use Rattle.octets.specs.Bytes.{at}
+use Rattle.octets.proofs.Puts.{set-put}
+use Rattle.octets.proofs.Written.{at-put_other}
 
 pub at-set_below : (m : ℕ) (xs : List ℕ) (k v j : ℕ) → k < length xs → j + m ≤ k → at m (set xs k v) j ≡ at m xs j
-at-set_below m xs k v j h b = ap (λ ys. at m ys j) (set-put xs k v h) ∙ at_other m xs (v ∷ []) k j (omega arith) (inl b)
+at-set_below m xs k v j h b = ap (λ ys. at m ys j) (set-put xs k v h) ∙ at-put_other m xs (v ∷ []) k j (omega arith) (inl b)
 
 -- Lists made from functions that agree on the numbers in question.
 pub map_same : {X : Type 0} (n : ℕ) (f g : ℕ → X) (a : ℕ) → ((k : ℕ) → a ≤ k → k < a + n → f k ≡ g k) → map f (range_with_len a n) ≡ map g (range_with_len a n)
