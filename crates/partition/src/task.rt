@@ -59,6 +59,7 @@ pub(crate) fn settle(b: &mut BlockMut<'_>, end: State, core: Registers)
     );
 }
 
+// Stays beside `settle`: this one knows a record alone, and that one which frame of the block the record lies in.
 /// The same, in the record.
 fn leave(task: &mut RecordMut<'_>, end: State, core: Registers)
     requires ready { is_ready (run_of task.old).state ≡ true }
