@@ -25,9 +25,9 @@ pub enum Unfit {
 }
 
 /// The number from `k` on, if it is there and lies from `lo` to `hi`.
-pub fn number<N: Number>(b: &[u8], k: usize, lo: N, hi: N) -> Result<N, Unfit>
-    ensures value { (missing fault : ℕ) → outcome N.value missing fault b.now k N.SIZE result ≡ (kind missing fault N.SIZE (N.value lo) (N.value hi)).read b.now k }
-    ensures bound { IfOk result (λ v. (N.value lo ≤ N.value v) × (N.value v ≤ N.value hi)) }
+pub fn number<N: Number>(b: &[u8], k: usize, lo: u64, hi: u64) -> Result<N, Unfit>
+    ensures value { (missing fault : ℕ) → outcome N.value missing fault b.now k N.SIZE result ≡ (kind missing fault N.SIZE lo hi).read b.now k }
+    ensures bound { IfOk result (λ v. (lo ≤ N.value v) × (N.value v ≤ hi)) }
     ensures room { OnOk result (k + N.SIZE ≤ length b.now) }
 {
     let n = N::SIZE;
@@ -35,7 +35,7 @@ pub fn number<N: Number>(b: &[u8], k: usize, lo: N, hi: N) -> Result<N, Unfit>
         return Err(Unfit::Missing);
     }
     let v: N = read(b, k);
-    if v.value() < lo.value() || hi.value() < v.value() {
+    if v.value() < lo || hi < v.value() {
         return Err(Unfit::OutOfRange);
     }
     Ok(v)

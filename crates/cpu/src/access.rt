@@ -20,6 +20,7 @@ pub fn finish(kind: LoadKind, raw: u32) -> u32
     }
 }
 
+// Stays a function of `half`: by casts each of the two arms would take four of them.
 /// The sign of a number, where `half` is the weight of its highest bit, in all higher bits.
 fn extend(half: u32, raw: u32) -> u32
     requires small { half < 65536 }

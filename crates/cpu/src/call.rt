@@ -43,6 +43,7 @@ impl Answer {
 }
 
 impl Call {
+    // No `From`: it is made of four numbers, which a tuple would only put together to be taken apart.
     /// The call with a number, as x17 has it, and with what x10, x11 and x12 hold.
     pub fn of(number: u32, a0: u32, a1: u32, a2: u32) -> Call
         ensures value { result ≡ call_of number a0 a1 a2 }

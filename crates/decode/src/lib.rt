@@ -84,6 +84,8 @@ fn by_opcode(word: u32) -> Option<Instruction>
     }
 }
 
+// Three names, as the manual has them: a place as an argument would have to be said, with its bound, at each use.
+
 /// The registers that a word names, each by where its number stands.
 fn rd(word: u32) -> Reg
     ensures value { result ≡ rd_of word }

@@ -9,6 +9,7 @@ pub struct Reg {
 }
 
 impl Reg {
+    // No `From<u32>`: a conversion by From loses nothing, and this one drops the higher bits.
     /// The register that the five low bits name.
     pub fn of(bits: u32) -> Reg
         ensures value { result.number ≡ bits % 32 }

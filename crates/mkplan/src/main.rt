@@ -49,6 +49,7 @@ fn load_all(
 {
     let heap = rt.alloc();
     let mut all = Vec::new(heap);
+    // Stays a loop: the closure of a `map` would be all of its body.
     for named in partitions {
         let partition = &named.item;
         let line = named.name.line;

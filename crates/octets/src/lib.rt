@@ -35,6 +35,8 @@ pub trait Number: Copy {
         ensures { result ≡ value self };
 }
 
+// Four impls: the gate refuses one that a macro of the repository's own writes.
+
 impl Number for u8 {
     ghost SIZE = { 1 };
 

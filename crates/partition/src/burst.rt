@@ -12,6 +12,9 @@ use cpu::registers::Registers;
 use memory::block_mut::BlockMut;
 use model::plan::State;
 
+// The block and the core stay two: the core goes back into the block only when the burst ends. The stretch and what is shown
+// stay two: a struct of both would be made anew for each bout.
+
 /// Instructions in these ticks at most, until the task waits or stops.
 pub(crate) fn burst(
     b: &mut BlockMut<'_>,

@@ -34,7 +34,8 @@ pub fn lay(b: &mut [u8], view: &View<'_>, q: u8)
     begin(&mut BlockMut { bytes: b }, view, q);
 }
 
-// A clause `bytes` says that the block is the same loan as before: so its lender learns what came back.
+// A clause `bytes` says, here and in all of this crate, that the block is the same loan as before: so its lender learns what
+// came back. It is said of each function: a ghost field speaks of one value, and not of before and after.
 /// A byte from outside comes, and is kept until it is heard, if there is a place for it.
 #[tactic(auto, using(crate::proofs::Sets::arriving))]
 pub fn arrive(b: &mut BlockMut<'_>, byte: u8)

@@ -36,7 +36,7 @@ impl Reader<'_> {
         requires fault { place_of fault ≡ self.old.at }
         ensures { Reads self.old self.new (as_number N.value result) (kind (number_of missing) (number_of fault) N.SIZE (N.value lo) (N.value hi)).read }
     {
-        match number(self.bytes, self.at, lo, hi) {
+        match number(self.bytes, self.at, lo.value(), hi.value()) {
             Ok(v) => {
                 self.at += N::SIZE;
                 Ok(v)

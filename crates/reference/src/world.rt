@@ -14,7 +14,7 @@ pub struct World<'a> {
     windows: &'a [Window],
     time: u64,
     parts: &'a mut [Partition],
-    // Stays beside the partitions: a partition is made before its pages are known, and cannot fail.
+    // Stays beside the partitions: `Partition::new`, which is public, takes no pages, and all memories lie in one row.
     pages: &'a [u16],
     memory: &'a mut [u8],
     channels: &'a mut [Queue],

@@ -26,6 +26,8 @@ const ALONE: [Window; 2] = [Window {
     ticks: 1_000_000,
 }; 2];
 
+// These words, and the writing of them, stand in the program `world` too, which lends none.
+
 /// Writes a program into memory from its start on, as far as it goes.
 fn put_words(memory: &mut [u8], words: &[u32]) {
     for (place, word) in memory.chunks_exact_mut(4).zip(words) {

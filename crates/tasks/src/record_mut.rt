@@ -23,6 +23,7 @@ pub struct RecordMut<'a> {
     ghost below: { number < 16 },
 }
 
+// What is kept is said of each method: a ghost field speaks of one value, and not of before and after.
 impl<'a> RecordMut<'a> {
     ghost use Rattle.tasks.specs.Lent.{run_of, task_of, run_in, task_in, Kept};
 

@@ -40,7 +40,8 @@ impl<T: Drop> From<AllocFailed<T>> for Ended {
 pub(crate) enum Outside<'a> {
     /// Nothing, for so many ticks.
     Nothing(u64),
-    /// A row of bytes for each tick, one behind the other; the next one begins at a place.
+    /// A row of bytes for each tick, one behind the other; the next one begins at a place. (The place stands beside the bytes
+    /// since a refusal's place is counted in all of them.)
     Rows(&'a [u8], usize),
 }
 
@@ -66,9 +67,7 @@ impl Outside<'_> {
         if let Outside::Rows(bytes, place) = *self {
             let end = row_end(bytes, place, partitions, time)?;
             let coming = Row::new(bytes, place, partitions);
-            for arrival in (0..coming.len()).filter_map(|i| coming.arrival(i)) {
-                row.push(arrival)?;
-            }
+            row.extend((0..coming.len()).filter_map(|i| coming.arrival(i)))?;
             *self = Outside::Rows(bytes, end);
         }
         Ok(())
@@ -93,10 +92,9 @@ pub(crate) fn run(
             break;
         }
         outside.take(view.partitions(), time, &mut row)?;
-        match world.tick(row.as_slice()) {
-            Ok(Some(b)) => shown.push(b)?,
-            Ok(None) => {}
-            Err(_) => return Err(Ended::Refused(Refusal::Row(time as usize))),
+        let over = |_| Refusal::Row(time as usize);
+        if let Some(b) = world.tick(row.as_slice()).map_err(over)? {
+            shown.push(b)?;
         }
     }
     Ok(())

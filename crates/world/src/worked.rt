@@ -184,8 +184,8 @@ pub fn run(heap: Global, case: &Case) -> anyhow::Result<Vec<Shown>> {
     let mut world = World::start(16, &WINDOWS, &mut parts, &pages, &mut memory, &mut channels);
     let none: [&[Arrival]; TICKS] = [&[]; TICKS];
     let mut shown: [Option<Shown>; TICKS] = [None; TICKS];
-    if world.run(&none, &mut shown).is_err() {
-        return Err(anyhow!("the time is over"));
-    }
+    world
+        .run(&none, &mut shown)
+        .map_err(|_| anyhow!("the time is over"))?;
     Ok(shown.iter().copied().flatten().collect(heap)?)
 }

@@ -23,7 +23,7 @@ impl OwnTick<'_> {
         ensures part { self.new.part.now ≡ self.old.part.now }
         ensures same { Lends self.old self.new }
     {
-        // By index: after `get_mut` nothing is known of a slice.
+        // By index: after `get_mut` a proof knows a slice's length alone.
         let c = channel as usize;
         if c >= self.channels.len() {
             return Answer::NO;

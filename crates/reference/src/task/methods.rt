@@ -1,7 +1,7 @@
 //! What becomes of a task.
 #![tactic(auto, unfolding(crate::specs::Parts::run_of, model::specs::Tick::is_ready, model::specs::Tick::is_waiting, model::specs::Tick::woken, model::specs::Tick::checked))]
 
-ghost use Rattle.std.specs.Prelude.{◌≡◌};
+ghost use Rattle.std.specs.Prelude.{◌≡◌, ◌+◌, nat_le};
 ghost use Rattle.cpu.specs.Core.{fresh};
 ghost use Rattle.cpu.specs.Rv32i.{rv32i, answered, called};
 ghost use Rattle.cpu.specs.Held.{core_of};
@@ -48,6 +48,13 @@ impl Progress {
         self.core.call()
     }
 
+    /// Whether so many ticks have passed since it began.
+    fn is_over(&self, ticks: u32, time: u64) -> bool
+        ensures { result ≡ nat_le ((run_of self.now).began + ticks) time }
+    {
+        time >= self.began && time - self.began >= u64::from(ticks)
+    }
+
     /// A waiting task begins anew when its period is over.
     pub(crate) fn wake(&mut self, plan: Task, number: u8, time: u64)
         ensures { run_of self.new ≡ woken rv32i plan number time (run_of self.old) }
@@ -55,13 +62,12 @@ impl Progress {
         let State::Waiting = self.state else {
             return;
         };
-        let period = u64::from(plan.period);
-        if time < self.began || time - self.began < period {
+        if !self.is_over(plan.period, time) {
             return;
         }
         self.state = State::Ready;
         self.core = Registers::new(number);
-        self.began += period;
+        self.began += u64::from(plan.period);
     }
 
     /// A ready task whose deadline has come is late.
@@ -71,8 +77,7 @@ impl Progress {
         let State::Ready = self.state else {
             return;
         };
-        let deadline = u64::from(plan.deadline);
-        if time < self.began || time - self.began < deadline {
+        if !self.is_over(plan.deadline, time) {
             return;
         }
         self.state = if u16::from(plan.lates) <= self.late {

@@ -23,7 +23,7 @@ impl World<'_> {
         ensures plan { plan_of self.new ≡ plan_of self.old }
         ensures time { self.new.time ≡ self.old.time }
     {
-        // By index, as in all that is lent here: of a slice after `get_mut` nothing is known.
+        // By index, as in all that is lent here: of a slice after `get_mut` a proof knows the length alone.
         let q = a.partition as usize;
         if q < self.parts.len() {
             self.parts[q].arrive(a.byte);
