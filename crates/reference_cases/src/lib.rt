@@ -60,6 +60,9 @@ fn run(
     world.run(rows, shown).ok()
 }
 
+// `run` and `says` stay two calls in each case: of a function generic in the number of rows, which would have both and the places
+// for what is shown, the cases that call it got no proof.
+
 /// Whether just these bytes were shown, in these ticks.
 fn says(shown: &[Option<Shown>], expected: &[(u64, u8)]) -> bool {
     let said = shown.iter().flatten().map(|s| (s.tick, s.byte));

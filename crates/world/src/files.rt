@@ -55,10 +55,7 @@ impl Outside<'_> {
     }
 
     fn is_over(&self) -> bool {
-        match *self {
-            Outside::Nothing(_) => false,
-            Outside::Rows(bytes, place) => place >= bytes.len(),
-        }
+        matches!(*self, Outside::Rows(bytes, place) if place >= bytes.len())
     }
 
     /// Takes the row of a tick: what comes in it, in the order in which it comes.

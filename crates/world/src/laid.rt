@@ -58,6 +58,7 @@ fn partition_of(view: &View<'_>, q: u8) -> Partition {
 /// The memories, one after the other.
 fn memory_of(heap: Global, view: &View<'_>) -> Result<Vec<u8>, AllocError> {
     let mut all = Vec::new(heap);
+    // Stays a loop: so a memory is copied at a time, and not a byte.
     for q in 0..view.partitions() {
         all.extend_from_slice(view.memory_bytes(q))?;
     }
