@@ -5,7 +5,7 @@ use Rattle.memory.proofs.Frames.{length-memory, length-frame, lent_mapped, lent_
 use Rattle.memory.proofs.Walks.{no_leaf, leaf_frame, no_page, in_page, walk_in, walk_out, load_there, word_there, read_there, fetch_odd, fetch_word}
 use Rattle.memory.proofs.Walks.{store_fits_there, stored_there, stored_memory, stored_control, stored_mapped}
 
-pub ruleset tests = (nat_tests)
+pub ruleset comparisons = (nat_tests)
 
 pub ruleset sizes = (length-memory)
 

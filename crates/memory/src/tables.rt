@@ -50,7 +50,7 @@ fn write_table<F: Fn(usize) -> u32>(t: &mut [u8], entry: F)
 }
 
 /// Entry r of the root table: the leaf table serves the first addresses.
-#[tactic(auto, using(crate::proofs::Sets::tests), unfolding(crate::specs::Frames::root_entry))]
+#[tactic(auto, using(crate::proofs::Sets::comparisons), unfolding(crate::specs::Frames::root_entry))]
 fn root_entry(r: usize) -> u32
     ensures value { result ≡ root_entry r }
 {
@@ -58,7 +58,7 @@ fn root_entry(r: usize) -> u32
 }
 
 /// Entry i of the leaf table, with so many pages.
-#[tactic(auto, using(crate::proofs::Sets::tests), unfolding(crate::specs::Frames::leaf_entry))]
+#[tactic(auto, using(crate::proofs::Sets::comparisons), unfolding(crate::specs::Frames::leaf_entry))]
 fn leaf_entry(pages: usize, i: usize) -> u32
     requires few { i < 1024 }
     ensures value { result ≡ leaf_entry pages i }
