@@ -54,12 +54,8 @@ puts_same {xs} {ys} {a} {b} {k} {j} e p =
       behind = omega (arith, p.behind, ap length e);
     }
 
--- One thing more of a row: there is room for it, and then it stands there.
-module _ {X : Type 0} (f : X → List ℕ) (l : List X) (i : ℕ) (d : X) (h : i < length l) where
-  pub room_more :
-      {xs ys : List ℕ} {k j : ℕ} → Puts xs ys k j (flat_map f (take i l)) → k + length (flat_map f l) ≤ length xs → length ys ≡ length xs → j + length (f (get_or l i d)) ≤ length ys
-  room_more p r e = omega (arith, length-flat_map-take f l i d h, p.behind)
-
+-- One thing more of a row.
+module _ {X Y : Type 0} (f : X → List Y) (l : List X) (i : ℕ) (d : X) (h : i < length l) where
   flat_more : flat_map f (take (i + 1) l) ≡ flat_map f (take i l) ++ f (get_or l i d)
   flat_more =
       let x = get_or l i d in
@@ -70,8 +66,14 @@ module _ {X : Type 0} (f : X → List ℕ) (l : List X) (i : ℕ) (d : X) (h : i
   pub length_more : length (flat_map f (take (i + 1) l)) ≡ length (flat_map f (take i l)) + length (f (get_or l i d))
   length_more = ap length flat_more ∙ length-append (flat_map f (take i l)) (f (get_or l i d))
 
+-- There is room for it, and then it stands there.
+module _ {X : Type 0} (f : X → List ℕ) (l : List X) (i : ℕ) (d : X) (h : i < length l) where
+  pub room_more :
+      {xs ys : List ℕ} {k j : ℕ} → Puts xs ys k j (flat_map f (take i l)) → k + length (flat_map f l) ≤ length xs → length ys ≡ length xs → j + length (f (get_or l i d)) ≤ length ys
+  room_more p r e = omega (arith, length-flat_map-take f l i d h, p.behind)
+
   pub puts_more : {xs ys zs : List ℕ} {k j n : ℕ} → Puts xs ys k j (flat_map f (take i l)) → Puts ys zs j n (f (get_or l i d)) → Puts xs zs k n (flat_map f (take (i + 1) l))
-  puts_more p q = puts_same (sym flat_more) (puts_both p q)
+  puts_more p q = puts_same (sym (flat_more f l i d h)) (puts_both p q)
 
 pub puts_all : {X : Type 0} (f : X → List ℕ) (l : List X) (i : ℕ) → length l ≤ i → {xs ys : List ℕ} {k j : ℕ} → Puts xs ys k j (flat_map f (take i l)) → Puts xs ys k j (flat_map f l)
 puts_all f l i h p = puts_same (ap (flat_map f) (take_all i l h)) p
