@@ -4,9 +4,13 @@ use Rattle.std.specs.List.{flat_map}
 use Rattle.std.proofs.lemmas.Grind.{flat_map-append}
 use Rattle.std.proofs.lemmas.List.{append_assoc, take_at, drop_at, drop-drop, length-append, length-take-le, take-append-drop, take_more, take_all, append-nil}
 use Rattle.std.proofs.lemmas.List.Folds.{length-flat_map-take}
-use Rattle.octets.specs.Bytes.{put}
+use Rattle.octets.specs.Bytes.{put, bytes_of}
 use Rattle.octets.proofs.Numbers.{length-bytes_of}
 use Rattle.octets.proofs.Puts.{length-put}
+use Rattle.plan.specs.declared.head.Header.{Header}
+use Rattle.plan.specs.declared.head.PartHead.{PartHead}
+use Rattle.plan.specs.Layout.{header}
+use Rattle.plan.specs.Drafts.{head_bytes}
 use Rattle.plan.specs.Writes.{Puts}
 
 -- A write right behind another.
@@ -80,3 +84,21 @@ puts_all f l i h p = puts_same (ap (flat_map f) (take_all i l h)) p
 
 -- How long bytes are that are made of others.
 pub ruleset lengths = (length-append, length-bytes_of)
+
+pub head_bytes_lem : (p : PartHead) → length (head_bytes p) ≡ 3
+head_bytes_lem p = omega (arith, length-append (bytes_of 2 p.pages) (bytes_of 1 p.tasks), length-bytes_of 2 p.pages, length-bytes_of 1 p.tasks)
+
+pub header_bytes : (h : Header) → length (header.write h) ≡ 10
+header_bytes h =
+    omega (
+      arith,
+      length-append (bytes_of 4 0x454d4954) (bytes_of 2 h.system ++ (bytes_of 1 h.partitions ++ (bytes_of 2 h.windows ++ bytes_of 1 h.channels))),
+      length-append (bytes_of 2 h.system) (bytes_of 1 h.partitions ++ (bytes_of 2 h.windows ++ bytes_of 1 h.channels)),
+      length-append (bytes_of 1 h.partitions) (bytes_of 2 h.windows ++ bytes_of 1 h.channels),
+      length-append (bytes_of 2 h.windows) (bytes_of 1 h.channels),
+      length-bytes_of 4 0x454d4954,
+      length-bytes_of 2 h.system,
+      length-bytes_of 1 h.partitions,
+      length-bytes_of 2 h.windows,
+      length-bytes_of 1 h.channels,
+    )
