@@ -187,7 +187,11 @@ pub fn words_of(heap: Global, line: &[u8]) -> Result<Vec<Word<'_>>, Fault> {
             b'#' => break,
             b' ' | b'\t' | b'\r' => rest = more,
             _ => {
-                let end = 1 + more.iter().position(|b| ends_word(*b)).unwrap_or(more.len());
+                let end = 1
+                    + more
+                        .iter()
+                        .position(|b| ends_word(*b))
+                        .unwrap_or(more.len());
                 let text = said(&rest[..end])?;
                 words.push(Word { heap, text })?;
                 rest = &rest[end..];
