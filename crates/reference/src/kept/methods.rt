@@ -28,7 +28,6 @@ impl<T: Default + Drop, const N: usize> Kept<T, N> {
     /// The things, in the order in which they came.
     pub(crate) fn as_slice(&self) -> &[T]
         ensures value { result.now ≡ held self.now }
-        ensures fits { length result.now ≤ N }
     {
         &self.things.as_slice()[..self.count]
     }
