@@ -1,5 +1,5 @@
 -- A table that is written entry by entry, and tables that were written one after the other.
-use Rattle.std.proofs.Common.{◌≡◌, ℕ, ◌+◌, ◌*◌, ◌<◌, ◌≤◌, List, ◌++◌, length, take, drop, length-append, sym, subst, ap, ◌∙◌, inl, arith, below_more}
+use Rattle.std.proofs.Common.{◌≡◌, ℕ, ◌+◌, ◌-◌, ◌*◌, ◌/◌, ◌<◌, ◌≤◌, List, ◌++◌, length, take, drop, length-append, sym, subst, ap, ◌∙◌, inl, arith, below_more}
 use Rattle.std.specs.List.{between}
 use Rattle.std.proofs.lemmas.List.{length-drop, length-take-le, drop-drop}
 use Rattle.std.proofs.lemmas.Slice.{drop-append-drop}
@@ -23,6 +23,19 @@ entries_more t t' i v P after room small here done =
     (sym (ap (λ xs. at 4 xs (4 * j)) after ∙ at-put_other 4 t (bytes_of 4 v) (4 * i) (4 * j) (omega (arith, length-bytes_of 4 v)) (inl (omega (arith, length-bytes_of 4 v)))))
     (done j h))
     (subst (P i) (sym (ap (λ xs. at 4 xs (4 * i)) after ∙ at-put 4 t (4 * i) v room small)) here)
+
+-- The same of a row whose entries stand at any places that rise.
+module _ (b b' : List ℕ) (k v : ℕ) (after : b' ≡ put b k (bytes_of 4 v)) (room : k + 4 ≤ length b) where
+  pub entries_more_at :
+      (place entry : ℕ → ℕ) (i : ℕ) → place i ≡ k → ((j : ℕ) → j < i → place j + 4 ≤ place i) → v < 4294967296 → v ≡ entry i
+      → ((j : ℕ) → j < i → at 4 b (place j) ≡ entry j) → (j : ℕ) → j < i + 1 → at 4 b' (place j) ≡ entry j
+  entries_more_at place entry i here order small e done =
+      below_more (λ j. at 4 b' (place j) ≡ entry j) i
+      (λ j h.
+      ap (λ xs. at 4 xs (place j)) after
+      ∙ at-put_other 4 b (bytes_of 4 v) k (place j) (omega (arith, length-bytes_of 4 v, room)) (inl (omega (arith, order j h, here)))
+      ∙ done j h)
+      (ap (λ xs. at 4 xs (place i)) after ∙ ap (at 4 (put b k (bytes_of 4 v))) here ∙ at-put 4 b k v room small ∙ e)
 
 deeper : (n m : ℕ) (a b : List ℕ) → drop n b ≡ drop n a → drop (n + m) b ≡ drop (n + m) a
 deeper n m a b e = sym (drop-drop m n b) ∙ ap (drop m) e ∙ drop-drop m n a
@@ -89,3 +102,18 @@ module _ (a root : List ℕ) (lr : length root ≡ 4096) (whole : length a ≡ 3
           root = λ r h. root_same (4 * r) (omega arith) ∙ roots r h;
           leaf = λ i h. leaf_same (4 * i) (omega arith) ∙ leaves i h ∙ ap (λ n. leaf_entry n i) (sym p);
         }
+
+-- The root table was written to any row a, which gave b, and then the leaf table, which gave c.
+module _ (a b c : List ℕ) (lb : length b ≡ length a) (lc : length c ≡ length b) (behind-root : drop 4096 b ≡ drop 4096 a) (behind-leaf : drop 8192 c ≡ drop 8192 b) where
+  pub tables_mapped_any :
+      length a ≡ 32768 + 4096 * pages_of a → pages_of a ≤ 1024 → ((r : ℕ) → r < 1024 → at 4 b (4 * r) ≡ root_entry r) → take 4096 c ≡ take 4096 b
+      → ((i : ℕ) → i < 1024 → at 4 c (4096 + 4 * i) ≡ leaf_entry ((length a - 32768) / 4096) i) → Mapped c
+  unfolding pages_of
+  tables_mapped_any whole few root front leaf =
+      let l : length a ≡ length c = sym (lc ∙ lb) in
+      record {
+        whole = omega arith;
+        few = omega arith;
+        root = λ r h. sym (at_take 4 4096 c (4 * r) (omega arith)) ∙ ap (λ xs. at 4 xs (4 * r)) front ∙ at_take 4 4096 b (4 * r) (omega arith) ∙ root r h;
+        leaf = λ i h. leaf i h ∙ ap (λ n. leaf_entry ((n - 32768) / 4096) i) l;
+      }

@@ -1,6 +1,8 @@
 //! A plan as bytes, by the writer of the library `plan`.
-ghost use Rattle.std.specs.Prelude.{◌≡◌, true, length, IfOk, vec_len};
+ghost use Rattle.std.specs.Prelude.{◌≡◌, true, map, length, IfOk, vec_len};
 ghost use Rattle.plan.specs.Taken.{accepts};
+ghost use Rattle.plan.specs.Drafts.{given};
+ghost use Rattle.mkplan.specs.Handed.{handed};
 
 use crate::memories::Loaded;
 use crate::troubles::Trouble;
@@ -10,17 +12,29 @@ use plan::draft::{Draft, DraftPart};
 use plantext::Plan;
 use std::alloc::{AllocError, Global};
 
+impl Loaded {
+    /// The partition as it is handed over.
+    fn part(&self) -> DraftPart<'_>
+        ensures { given result ≡ handed self.now }
+    {
+        DraftPart {
+            tasks: self.tasks.as_slice(),
+            memory: self.memory.bytes.as_slice(),
+        }
+    }
+}
+
 /// The partitions as they are handed over: the tasks of each, and its memory.
 fn parts_of<'a>(heap: Global, partitions: &'a [Loaded]) -> Result<Vec<DraftPart<'a>>, AllocError>
     ensures len { IfOk result (λ v. vec_len v ≡ length partitions.now) }
+    ensures each { IfOk result (λ v. map given v.items ≡ map handed partitions.now) }
 {
-    partitions
-        .iter()
-        .map(|loaded| DraftPart {
-            tasks: loaded.tasks.as_slice(),
-            memory: loaded.memory.bytes.as_slice(),
-        })
-        .collect(heap)
+    let mut parts = Vec::new(heap);
+    // Stays a loop: of structs that hold loans a chain's proof says how many there are, and not what they lend.
+    for loaded in partitions {
+        parts.push(loaded.part())?;
+    }
+    Ok(parts)
 }
 
 /// The bytes of a draft, which are a plan's.
@@ -38,6 +52,7 @@ fn written(heap: Global, draft: &Draft) -> Result<Vec<u8>, Trouble>
 
 /// The bytes of a plan with these partitions.
 pub fn plan_bytes(heap: Global, plan: &Plan, partitions: &[Loaded]) -> Result<Vec<u8>, Trouble>
+    requires each { vec_len plan.now.partitions ≡ length partitions.now }
     ensures plan { IfOk result (λ v. accepts v.items ≡ true) }
 {
     let parts = parts_of(heap, partitions)?;

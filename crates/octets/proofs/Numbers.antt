@@ -1,5 +1,5 @@
 -- Numbers in bytes, one byte at a time, and back.
-use Rattle.std.proofs.Common.{◌≡◌, ℕ, zero, suc, ◌+◌, ◌-◌, ◌*◌, ◌/◌, ◌%◌, ◌^◌, ◌<◌, ◌≤◌, List, [], ◌∷◌, length, get_or, take, drop, sym, refl, ap, ◌∙◌, pow-suc, lit<, arith}
+use Rattle.std.proofs.Common.{◌≡◌, ℕ, zero, suc, ◌+◌, ◌-◌, ◌*◌, ◌/◌, ◌%◌, ◌^◌, ◌<◌, ◌≤◌, List, [], ◌∷◌, ◌++◌, length, get_or, take, drop, sym, refl, ap, ◌∙◌, mul_assoc, mul_comm, pow-suc, lit<, arith}
 use Rattle.std.proofs.Math.Arith.{mod-mul}
 use native.Mathlib.Nat.{mod-add-div, div-div-eq-div-mul}
 use Rattle.std.proofs.lemmas.List.{drop_more, take_all}
@@ -84,3 +84,26 @@ pub bytes_of_8 :
     (v : ℕ) → v % 256 ∷ v / 256 % 256 ∷ v / 65536 % 256 ∷ v / 16777216 % 256 ∷ v / 4294967296 % 256 ∷ v / 1099511627776 % 256 ∷ v / 281474976710656 % 256 ∷ v / 72057594037927936 % 256 ∷ [] ≡ bytes_of 8 v
 unfolding bytes_of
 bytes_of_8 v = simp div-div-eq-div-mul
+
+-- The bytes of a number are those of its low part and of its high part.
+pub bytes_of_join : (m n lo hi : ℕ) → lo < 256 ^ m → bytes_of (m + n) (lo + 256 ^ m * hi) ≡ bytes_of m lo ++ bytes_of n hi
+unfolding bytes_of
+bytes_of_join zero n lo hi h =
+    let e : 0 + n ≡ n = omega arith in
+    let v : lo + 1 * hi ≡ hi = omega arith in
+    ap (λ k. bytes_of k (lo + 1 * hi)) e ∙ ap (bytes_of n) v
+bytes_of_join (suc m) n lo hi h =
+    let e : suc m + n ≡ suc (m + n) = omega arith in
+    let p : 256 ^ suc m * hi ≡ 256 * (256 ^ m * hi) = ap (λ x. x * hi) (pow-suc 256 m ∙ mul_comm (256 ^ m) 256) ∙ mul_assoc 256 (256 ^ m) hi in
+    let low : (lo + 256 ^ suc m * hi) % 256 ≡ lo % 256 = omega arith in
+    let high : (lo + 256 ^ suc m * hi) / 256 ≡ lo / 256 + 256 ^ m * hi = omega arith in
+    let small : lo / 256 < 256 ^ m = omega (arith, pow-suc 256 m) in
+    ap (λ k. bytes_of k (lo + 256 ^ suc m * hi)) e
+    ∙ ap (λ x. x ∷ bytes_of (m + n) ((lo + 256 ^ suc m * hi) / 256)) low
+    ∙ ap (λ x. lo % 256 ∷ bytes_of (m + n) x) high
+    ∙ ap (λ xs. lo % 256 ∷ xs) (bytes_of_join m n (lo / 256) hi small)
+
+pub bytes_of_halves : (v : ℕ) → bytes_of 8 v ≡ bytes_of 4 (v % 4294967296) ++ bytes_of 4 (v / 4294967296)
+bytes_of_halves v =
+    let e : v ≡ v % 4294967296 + 4294967296 * (v / 4294967296) = omega arith in
+    ap (bytes_of 8) e ∙ bytes_of_join 4 4 (v % 4294967296) (v / 4294967296) (omega arith)

@@ -1,5 +1,5 @@
 -- A plan that is handed over, as bytes.
-use Rattle.std.proofs.Common.{◌≡◌, ℕ, ◌+◌, ◌*◌, ◌/◌, ◌<◌, List, [], ◌∷◌, ◌++◌, map, length, get_or, take, drop, sym, refl, ap, ◌∙◌, mul-suc, arith}
+use Rattle.std.proofs.Common.{◌≡◌, ℕ, ◌+◌, ◌*◌, ◌/◌, ◌<◌, ◌≤◌, List, [], ◌∷◌, ◌++◌, map, length, get_or, take, drop, sym, refl, ap, ◌∙◌, mul-suc, arith}
 use Rattle.std.specs.List.{flat_map, All, AllByRecursion}
 use Rattle.std.proofs.lemmas.List.{length-append, length-map, take_at}
 use Rattle.std.proofs.lemmas.List.Elements.{All-nil, All-cons}
@@ -102,6 +102,11 @@ size_more ps i d base size n h e en =
     let m = length_more memory_bytes ps i d h in
     omega arith
 
+pub tasks_more :
+    (ps : List DraftPart) (i : ℕ) (d : DraftPart) (n : ℕ) → i < length ps → n ≡ length (flat_map (λ (p : DraftPart). p.tasks.now) (take i ps))
+    → n + length (get_or ps i d).tasks.now ≡ length (flat_map (λ (p : DraftPart). p.tasks.now) (take (i + 1) ps))
+tasks_more ps i d n h e = omega (arith, length_more (λ (p : DraftPart). p.tasks.now) ps i d h, e)
+
 -- What was written at the front is read as it.
 pub read_back : (i : Image) (entry exit : List ℕ) (n : ℕ) → InBounds i → n ≡ length (write_plan i) → exit ≡ put entry 0 (write_plan i) → read_plan (take n exit) ≡ got i n
 unfolding put
@@ -129,6 +134,21 @@ unfolding given_of
 given_memories [] ts e = refl
 given_memories (m ∷ ms) [] e = absurd (omega (arith, e))
 given_memories (m ∷ ms) (t ∷ ts) e = ap (λ l. m ∷ l) (given_memories ms ts (omega (arith, e)))
+
+all : List (List Task) → List Task
+all ts = flat_map (λ t. t) ts
+
+few_all : (ts : List (List Task)) → AllByRecursion TasksIn ts → length (all ts) ≤ 16 * length ts
+unfolding all
+few_all [] h = omega arith
+few_all (t ∷ ts) h = omega (arith, few_all ts h.1, length-append t (all ts), h.0.few)
+
+given_all : (ms : List (List ℕ)) (ts : List (List Task)) → length ms ≡ length ts → flat_map (λ (p : Given). p.tasks) (given_of ms ts) ≡ all ts
+unfolding all given_of
+given_all [] [] e = refl
+given_all [] (t ∷ ts) e = absurd (omega (arith, e))
+given_all (m ∷ ms) [] e = refl
+given_all (m ∷ ms) (t ∷ ts) e = ap (λ l. t ++ l) (given_all ms ts (omega (arith, e)))
 
 given_fits : (ms : List (List ℕ)) (ts : List (List Task)) → AllByRecursion MemoryIn ms → AllByRecursion TasksIn ts → All Fits (given_of ms ts)
 unfolding given_of
@@ -158,6 +178,7 @@ drafts_all i b =
         windows = b.windows.1;
         channels = b.channels;
         parts = omega (arith, ap length te, length-map ps (λ (p : Given). p.tasks), b.partitions.1);
+        few = omega (arith, ap length (given_all ms ts b.memories), few_all ts b.each_tasks, b.partitions.1);
         each = given_fits ms ts b.each_memory b.each_tasks;
       },
     )

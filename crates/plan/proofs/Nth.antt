@@ -5,11 +5,11 @@ use Rattle.std.specs.Result.{result_ok}
 use Rattle.std.proofs.lemmas.Bool.{both_ways}
 use Rattle.std.proofs.lemmas.Option.{slice_get-get_or, slice_get_past}
 use Rattle.codec.specs.Codec.{Outcome, got, refused, Codec, times}
-use Rattle.codec.proofs.Outcomes.{never, got_value, map-got}
+use Rattle.codec.proofs.Outcomes.{never, got_value, got_place, map-got}
 use Rattle.codec.proofs.Sizes.{times_length, times_sized, times_at}
 use Rattle.plan.specs.declared.refusal.Refusal.{Refusal}
 use Rattle.plan.specs.Refusals.{told}
-use Rattle.plan.specs.Ends.{seen}
+use Rattle.plan.specs.Ends.{seen, ended}
 use Rattle.plan.specs.Records.{HasSize}
 use Rattle.plan.specs.Taken.{was_read, things}
 
@@ -17,6 +17,10 @@ use Rattle.plan.specs.Taken.{was_read, things}
 pub told_ok : {A : Type 0} (r : Result A Refusal) (o : Outcome A) (j i : ℕ) (a : A) → told j r ≡ o → o ≡ got a i → r ≡ Ok a
 told_ok (Ok x) o j i a e g = ap Ok (got_value (e ∙ g))
 told_ok (Err x) o j i a e g = absurd (never (e ∙ g))
+
+pub ended_ok : {A : Type 0} (r : Result ℕ Refusal) (o : Outcome A) (i : ℕ) (a : A) → ended r ≡ seen o → o ≡ got a i → r ≡ Ok i
+ended_ok (Ok x) o i a e g = ap Ok (got_place (e ∙ ap seen g))
+ended_ok (Err x) o i a e g = absurd (never (e ∙ ap seen g))
 
 pub was_list : {A : Type 0} (o : Outcome (List A)) → was_read o ≡ true → (j : ℕ) × (o ≡ got (things o) j)
 was_list (got l j) e = (j, refl)

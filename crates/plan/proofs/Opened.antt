@@ -14,12 +14,12 @@ use Rattle.plan.specs.declared.refusal.Refusal.{Refusal}
 use Rattle.plan.specs.declared.head.Header.{Header}
 use Rattle.plan.specs.declared.head.PartHead.{PartHead}
 use Rattle.plan.specs.Refusals.{told, number_of, place_of}
-use Rattle.plan.specs.Ends.{seen, pages_of}
+use Rattle.plan.specs.Ends.{seen, ended, pages_of}
 use Rattle.plan.specs.Layout.{Image, Part, Body, header, window, channel, task, part_head, partition, memory, body, to_image, image, read_plan}
 use Rattle.plan.specs.Sizes.{window_size, channel_size, part_head_size, header_size}
 use Rattle.plan.specs.Taken.{was_read, things, accepts, image_or, image_in, pages_in}
 use Rattle.plan.specs.Places.{channels_from, parts_from, IsPart}
-use Rattle.plan.proofs.Nth.{told_ok}
+use Rattle.plan.proofs.Nth.{told_ok, ended_ok}
 use Rattle.plan.proofs.Walk.{stop_header}
 
 was_image : (o : Outcome Image) (d : Image) → was_read o ≡ true → (j : ℕ) × (o ≡ got (image_or d o) j)
@@ -38,7 +38,7 @@ header_ok xs ok j (Err x) e = absurd (never (stop_header xs (number_of x) (place
 pub header_at : (xs : List ℕ) (h : Header) (j : ℕ) → got h j ≡ header.read xs 0 → got h 10 ≡ header.read xs 0
 header_at xs h j e = ap (got h) (sym (header_size.ends xs 0 j h (sym e))) ∙ e
 
-record Opened (xs : List ℕ) (h : Header) : Type 0 where
+pub record Opened (xs : List ℕ) (h : Header) : Type 0 where
   pub ws : List Window
   pub cs : List Channel
   pub ps : List Part
@@ -76,7 +76,7 @@ body_opened xs h b j ej e is =
           ap (λ t. to_image (h, (p.0, (q.0, t)))) r.5 ∙ ap (λ t. to_image (h, (p.0, t))) q.5 ∙ ap (λ t. to_image (h, t)) p.5 ∙ is;
     }
 
-opened : (xs : List ℕ) → accepts xs ≡ true → (h : Header) → got h 10 ≡ header.read xs 0 → Opened xs h
+pub opened : (xs : List ℕ) → accepts xs ≡ true → (h : Header) → got h 10 ≡ header.read xs 0 → Opened xs h
 unfolding read_plan whole image
 opened xs ok h eh =
     let a = accepted xs ok in
@@ -103,6 +103,24 @@ part_read xs k j p e =
 
 abbrev no_part : Part
 no_part = record { pages = 0; tasks = [] }
+
+abbrev no_task : Task
+no_task = record { priority = 0; period = 0; deadline = 0; lates = 0 }
+
+-- The tasks in front of each task of a partition were read.
+module _ (xs : List ℕ) (h : Header) (o : Opened xs h) where
+  module _ (q before at : ℕ) (lt : q < h.partitions) (eb : got before at ≡ map_out pages_of ((times q partition).read xs (parts_from h))) where
+    module _ (g : PartHead) (eg : got g (at + 3) ≡ part_head.read xs at) where
+      pub task_ok : (i : ℕ) (r : Result ℕ Refusal) → i < g.tasks → ended r ≡ seen ((times i task).read xs (at + 3)) → is_ok r ≡ true
+      task_ok i r l e =
+          let b = times_item partition xs h.partitions q (parts_from h) o.behind o.ps no_part lt o.parts in
+          let p = get_or o.ps q no_part in
+          let here : b.0 ≡ at = sym (got_place (eb ∙ ap (map_out pages_of) b.2)) in
+          let own = part_read xs at b.1 p (ap (partition.read xs) (sym here) ∙ b.3) in
+          let same : own.0 ≡ g = sym (got_value (eg ∙ own.1)) in
+          let read : (times g.tasks task).read xs (at + 3) ≡ got p.tasks b.1 = ap (λ (x : PartHead). (times x.tasks task).read xs (at + 3)) (sym same) ∙ own.2 in
+          let t = times_item task xs g.tasks i (at + 3) b.1 p.tasks no_task l read in
+          ap is_ok (ended_ok r ((times i task).read xs (at + 3)) t.0 (take i p.tasks) e t.2)
 
 -- A partition's memory lies behind those before it.
 memory_at :

@@ -4,9 +4,13 @@ use Rattle.std.specs.List.{flat_map}
 use Rattle.std.proofs.lemmas.Grind.{flat_map-append}
 use Rattle.std.proofs.lemmas.List.{append_assoc, take_at, drop_at, drop-drop, length-append, length-take-le, take-append-drop, take_more, take_all, append-nil}
 use Rattle.std.proofs.lemmas.List.Folds.{length-flat_map-take}
-use Rattle.octets.specs.Bytes.{put}
+use Rattle.octets.specs.Bytes.{put, bytes_of}
 use Rattle.octets.proofs.Numbers.{length-bytes_of}
 use Rattle.octets.proofs.Puts.{length-put}
+use Rattle.plan.specs.declared.head.Header.{Header}
+use Rattle.plan.specs.declared.head.PartHead.{PartHead}
+use Rattle.plan.specs.Layout.{header}
+use Rattle.plan.specs.Drafts.{head_bytes}
 use Rattle.plan.specs.Writes.{Puts}
 
 -- A write right behind another.
@@ -54,12 +58,8 @@ puts_same {xs} {ys} {a} {b} {k} {j} e p =
       behind = omega (arith, p.behind, ap length e);
     }
 
--- One thing more of a row: there is room for it, and then it stands there.
-module _ {X : Type 0} (f : X → List ℕ) (l : List X) (i : ℕ) (d : X) (h : i < length l) where
-  pub room_more :
-      {xs ys : List ℕ} {k j : ℕ} → Puts xs ys k j (flat_map f (take i l)) → k + length (flat_map f l) ≤ length xs → length ys ≡ length xs → j + length (f (get_or l i d)) ≤ length ys
-  room_more p r e = omega (arith, length-flat_map-take f l i d h, p.behind)
-
+-- One thing more of a row.
+module _ {X Y : Type 0} (f : X → List Y) (l : List X) (i : ℕ) (d : X) (h : i < length l) where
   flat_more : flat_map f (take (i + 1) l) ≡ flat_map f (take i l) ++ f (get_or l i d)
   flat_more =
       let x = get_or l i d in
@@ -70,11 +70,35 @@ module _ {X : Type 0} (f : X → List ℕ) (l : List X) (i : ℕ) (d : X) (h : i
   pub length_more : length (flat_map f (take (i + 1) l)) ≡ length (flat_map f (take i l)) + length (f (get_or l i d))
   length_more = ap length flat_more ∙ length-append (flat_map f (take i l)) (f (get_or l i d))
 
+-- There is room for it, and then it stands there.
+module _ {X : Type 0} (f : X → List ℕ) (l : List X) (i : ℕ) (d : X) (h : i < length l) where
+  pub room_more :
+      {xs ys : List ℕ} {k j : ℕ} → Puts xs ys k j (flat_map f (take i l)) → k + length (flat_map f l) ≤ length xs → length ys ≡ length xs → j + length (f (get_or l i d)) ≤ length ys
+  room_more p r e = omega (arith, length-flat_map-take f l i d h, p.behind)
+
   pub puts_more : {xs ys zs : List ℕ} {k j n : ℕ} → Puts xs ys k j (flat_map f (take i l)) → Puts ys zs j n (f (get_or l i d)) → Puts xs zs k n (flat_map f (take (i + 1) l))
-  puts_more p q = puts_same (sym flat_more) (puts_both p q)
+  puts_more p q = puts_same (sym (flat_more f l i d h)) (puts_both p q)
 
 pub puts_all : {X : Type 0} (f : X → List ℕ) (l : List X) (i : ℕ) → length l ≤ i → {xs ys : List ℕ} {k j : ℕ} → Puts xs ys k j (flat_map f (take i l)) → Puts xs ys k j (flat_map f l)
 puts_all f l i h p = puts_same (ap (flat_map f) (take_all i l h)) p
 
 -- How long bytes are that are made of others.
 pub ruleset lengths = (length-append, length-bytes_of)
+
+pub head_bytes_lem : (p : PartHead) → length (head_bytes p) ≡ 3
+head_bytes_lem p = omega (arith, length-append (bytes_of 2 p.pages) (bytes_of 1 p.tasks), length-bytes_of 2 p.pages, length-bytes_of 1 p.tasks)
+
+pub header_bytes : (h : Header) → length (header.write h) ≡ 10
+header_bytes h =
+    omega (
+      arith,
+      length-append (bytes_of 4 0x454d4954) (bytes_of 2 h.system ++ (bytes_of 1 h.partitions ++ (bytes_of 2 h.windows ++ bytes_of 1 h.channels))),
+      length-append (bytes_of 2 h.system) (bytes_of 1 h.partitions ++ (bytes_of 2 h.windows ++ bytes_of 1 h.channels)),
+      length-append (bytes_of 1 h.partitions) (bytes_of 2 h.windows ++ bytes_of 1 h.channels),
+      length-append (bytes_of 2 h.windows) (bytes_of 1 h.channels),
+      length-bytes_of 4 0x454d4954,
+      length-bytes_of 2 h.system,
+      length-bytes_of 1 h.partitions,
+      length-bytes_of 2 h.windows,
+      length-bytes_of 1 h.channels,
+    )

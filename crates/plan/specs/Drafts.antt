@@ -50,11 +50,12 @@ draft_bytes d =
     ++ (flat_map window_bytes d.windows.now
     ++ (flat_map channel_bytes d.channels.now ++ (flat_map part_bytes d.parts.now ++ flat_map memory_bytes d.parts.now)))
 
--- No more of each than a plan may have, and what fits into each part.
+-- No more of each than a plan may have, no more tasks in all, and what fits into each part.
 pub record Counted (d : Draft) : Type 0 where
   pub windows : length d.windows.now ≤ 256
   pub channels : length d.channels.now ≤ 128
   pub parts : length d.parts.now ≤ 32
+  pub few : length (flat_map (λ p. p.tasks.now) d.parts.now) ≤ 512
   pub each : All (λ p. Fits (given p)) d.parts.now
 
 -- What writing a draft into a slice did: all of the plan's bytes at the front, and the rest as it was; or nothing.

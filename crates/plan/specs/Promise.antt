@@ -1,6 +1,6 @@
 -- What is promised of plans as bytes. Each is a statement, whose proof is owed.
 use Rattle.std.specs.Prelude.{◌≡◌, ℕ, ◌≤◌, Bool, List, length, Decides}
-use Rattle.std.specs.List.{All}
+use Rattle.std.specs.List.{All, flat_map}
 use Rattle.codec.specs.Codec.{got, Bytes}
 use Rattle.plan.specs.Layout.{Image, read_plan, write_plan}
 use Rattle.plan.specs.Bounds.{InBounds}
@@ -12,6 +12,7 @@ pub record Drafts (i : Image) (ps : List Given) : Type 0 where
   pub windows : length i.plan.windows ≤ 256
   pub channels : length i.plan.channels ≤ 128
   pub parts : length ps ≤ 32
+  pub few : length (flat_map (λ p. p.tasks) ps) ≤ 512
   pub each : All Fits ps
 
 -- Every plan in bounds is read from its bytes.

@@ -22,8 +22,8 @@ pub struct Draft<'a> {
 /// Why a draft is not written.
 #[derive(Clone, Copy, Debug, PartialEq, Eq)]
 pub enum Unwritten {
-    /// It has more windows, channels or partitions than a plan may have; or a partition has more than 255 tasks, more than
-    /// 65,535 pages, or a memory that is not whole pages.
+    /// It has more windows, channels or partitions than a plan may have, or more than 512 tasks in all; or a partition has more
+    /// than 255 tasks, more than 65,535 pages, or a memory that is not whole pages.
     Counts,
     /// The slice is too short; how many bytes would do.
     Short(usize),

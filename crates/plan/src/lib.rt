@@ -16,6 +16,7 @@
 
 pub mod check;
 pub mod draft;
+pub mod extent;
 pub mod head;
 mod part;
 mod reader;

@@ -59,9 +59,12 @@ impl Reader<'_> {
     pub fn pass<R: FromBytes>(&mut self, n: u16, around: R::Around) -> Result<(), Refusal>
         ensures { Reads self.old self.new result (λ xs k. seen ((times n (R.codec around)).read xs k)) }
     {
+        // A copy of its own is read on: so the place needs no way through memory from record to record.
+        let mut r = *self;
         for _i in 0..n {
-            R::read(self, around)?;
+            R::read(&mut r, around)?;
         }
+        *self = r;
         Ok(())
     }
 
@@ -100,9 +103,11 @@ impl Reader<'_> {
     {
         // Stays beside `pass`: parts differ in size, and what they say is added up.
         let mut pages = 0u32;
+        let mut r = *self;
         for _i in 0..n {
-            pages += u32::from(self.pass_part()?);
+            pages += u32::from(r.pass_part()?);
         }
+        *self = r;
         Ok(pages)
     }
 

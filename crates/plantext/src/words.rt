@@ -157,6 +157,11 @@ fn is_text(b: u8) -> bool
     matches!(b, b' ' | b'\t' | b'\r' | 0x21..=0x7e)
 }
 
+/// Whether no word goes on with it: it is a blank, or begins a comment.
+fn ends_word(b: u8) -> bool {
+    matches!(b, b' ' | b'\t' | b'\r' | b'#')
+}
+
 /// The first byte that is no text.
 fn no_text(bytes: &[u8]) -> Option<u8>
     ensures ascii { IfNone result (All (λ b. b < 128) bytes.now) }
@@ -164,9 +169,8 @@ fn no_text(bytes: &[u8]) -> Option<u8>
     bytes.iter().copied().find(|b| !is_text(*b))
 }
 
-/// What a line says, up to its comment.
-fn said(line: &[u8]) -> Result<&str, LineFault> {
-    let bytes = line.split(|b| *b == b'#').next().unwrap_or(line);
+/// What these bytes say.
+fn said(bytes: &[u8]) -> Result<&str, LineFault> {
     match no_text(bytes) {
         Some(b) => Err(LineFault::NoText(b)),
         None => Ok(str::from_utf8(bytes).unwrap()),
@@ -175,6 +179,24 @@ fn said(line: &[u8]) -> Result<&str, LineFault> {
 
 /// The words of a line, up to its comment.
 pub fn words_of(heap: Global, line: &[u8]) -> Result<Vec<Word<'_>>, Fault> {
-    let words = said(line)?.split_ascii_whitespace();
-    Ok(words.map(|text| Word { heap, text }).collect(heap)?)
+    let mut words = Vec::new(heap);
+    let mut rest = line;
+    // Stays a loop: so blanks and a comment are passed once, and only what a word says is looked at again.
+    while let [first, more @ ..] = rest {
+        match *first {
+            b'#' => break,
+            b' ' | b'\t' | b'\r' => rest = more,
+            _ => {
+                let end = 1
+                    + more
+                        .iter()
+                        .position(|b| ends_word(*b))
+                        .unwrap_or(more.len());
+                let text = said(&rest[..end])?;
+                words.push(Word { heap, text })?;
+                rest = &rest[end..];
+            }
+        }
+    }
+    Ok(words)
 }

@@ -1,5 +1,5 @@
 -- Memories one after the other: where each lies, and what a write to one leaves of the others.
-use Rattle.std.proofs.Common.{◌≡◌, ℕ, zero, suc, ◌+◌, ◌-◌, ◌*◌, ◌<◌, ◌≤◌, min, ◌≢◌, ◌⊎◌, List, [], ◌∷◌, ◌++◌, length, map, fold, get_or, take, drop, set, sym, refl, ap, ◌∙◌, inl, inr, ⊎_elim, add-zero, arith, rules}
+use Rattle.std.proofs.Common.{◌≡◌, ℕ, zero, suc, ◌+◌, ◌-◌, ◌*◌, ◌<◌, ◌≤◌, min, ◌≢◌, ◌⊎◌, List, [], ◌∷◌, ◌++◌, length, map, fold, get_or, take, drop, set, sym, refl, ap, ◌∙◌, inl, inr, ⊎_elim, le_of_suc-le-suc, not-suc-le-zero, add-zero, add_assoc, suc-add, arith, rules}
 use Rattle.std.specs.List.{between}
 use Rattle.std.proofs.lemmas.List.{places, same_lists, drop-drop, length-drop, nil_from_length, take-append-drop, get_or_past, get_or-set_same, get_or-set_other}
 use Rattle.std.proofs.lemmas.Bool.{cases_lt}
@@ -109,3 +109,29 @@ fold_place most [] zero a h = omega arith
 fold_place most [] (suc q) a h = omega arith
 fold_place most (p ∷ ps) zero a h = omega arith
 fold_place most (p ∷ ps) (suc q) a h = fold_place most ps q (min (a + p * 4096) most) (omega arith) ∙ omega arith
+
+-- The sum of the pages before, of none, of one more, and past the last.
+pub place_none : (ps : List ℕ) → place ps 0 ≡ 0
+unfolding place
+place_none [] = refl
+place_none (p ∷ ps) = refl
+
+pub place_more : (ps : List ℕ) (q : ℕ) → q < length ps → place ps (q + 1) ≡ place ps q + get_or ps q 0 * 4096
+unfolding place
+place_more [] q h = absurd (not-suc-le-zero h)
+place_more (p ∷ ps) zero h = omega (arith, place_none ps)
+place_more (p ∷ ps) (suc q) h =
+    ap (place (p ∷ ps)) (suc-add q 1) ∙ ap (λ n. p * 4096 + n) (place_more ps q (le_of_suc-le-suc h)) ∙ sym (add_assoc (p * 4096) (place ps q) (get_or ps q 0 * 4096))
+
+pub place_past : (ps : List ℕ) (q : ℕ) → length ps ≤ q → place ps q ≡ place ps (length ps)
+unfolding place
+place_past [] q h = refl
+place_past (p ∷ ps) zero h = absurd (not-suc-le-zero h)
+place_past (p ∷ ps) (suc q) h = ap (λ n. p * 4096 + n) (place_past ps q (le_of_suc-le-suc h))
+
+pub place_min : (ps : List ℕ) (q i : ℕ) → i ≡ min q (length ps) → place ps i ≡ place ps q
+place_min ps q i e =
+    ⊎_elim
+    (λ (h : q < length ps). let same : i ≡ q = omega arith in ap (place ps) same)
+    (λ (h : length ps ≤ q). let same : i ≡ length ps = omega arith in ap (place ps) same ∙ sym (place_past ps q h))
+    (cases_lt q (length ps))

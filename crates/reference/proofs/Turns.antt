@@ -1,8 +1,11 @@
 -- Whose tick it is, window by window.
-use Rattle.std.proofs.Common.{◌≡◌, ℕ, ◌+◌, ◌-◌, ◌%◌, ◌^◌, ◌<◌, ◌≤◌, min, cond, leb, ltb, List, [], ◌∷◌, length, map, fold, get_or, drop, Some, None, sym, refl, ap, ◌∙◌, ⊎_elim, mod-eq_of_lt, arith, le-ltb, lt-ltb}
+use Rattle.std.proofs.Common.{◌≡◌, ℕ, ◌+◌, ◌-◌, ◌%◌, ◌^◌, ◌<◌, ◌≤◌, Result, Ok, Err, min, cond, leb, ltb, List, [], ◌∷◌, length, map, fold, sum, get_or, drop, Some, None, sym, refl, ap, ◌∙◌, ⊎_elim, mod-eq_of_lt, arith, le-ltb, lt-ltb}
 use Rattle.std.proofs.lemmas.List.{at_drop_more, at_drop_all}
 use Rattle.std.proofs.lemmas.Bool.{cases_lt, cond-true, cond-false, lt-leb, le-leb}
+use Rattle.std.proofs.lemmas.List.Sums.{sum-map, sum_by-cons}
+use Rattle.std.specs.List.{sum_by}
 use Rattle.std.specs.Bool.{then_some}
+use Rattle.std.specs.Result.{OkIff, result_unwrap_or}
 use Rattle.model.specs.declared.plan.Window.{Window}
 use Rattle.model.specs.World.{round, turn_in}
 
@@ -14,6 +17,23 @@ pub fold_round : (most : ℕ) (ws : List Window) (a : ℕ) → a ≤ most → fo
 unfolding round
 fold_round most [] a h = omega arith
 fold_round most (w ∷ ws) a h = fold_round most ws (min (a + w.ticks) most) (omega arith) ∙ omega arith
+
+-- The sum of the windows' ticks.
+abbrev ticks_of : Window → ℕ
+ticks_of w = w.ticks
+
+by_round : (ws : List Window) → sum_by ticks_of ws ≡ round ws
+unfolding round
+by_round [] = refl
+by_round (w ∷ ws) = sum_by-cons ticks_of w ws ∙ ap (λ n. w.ticks + n) (by_round ws)
+
+pub sum_round : (ws : List Window) → sum (map (λ (w : Window). w.ticks) ws) ≡ round ws
+sum_round ws = sum-map ticks_of ws ∙ by_round ws
+
+-- A number that does not fit is the largest that does.
+pub capped_at : {E : Type 0} (r : Result ℕ E) (n : ℕ) → OkIff r (n < 18446744073709551616) n → result_unwrap_or r 18446744073709551615 ≡ min n 18446744073709551615
+capped_at (Ok x) n h = omega (arith, h.0, h.1)
+capped_at (Err e) n h = ⊎_elim (λ (l : n < 18446744073709551616). absurd (h l)) (λ (g : 18446744073709551616 ≤ n). omega arith) (cases_lt n 18446744073709551616)
 
 module _ (s : ℕ) where
   -- The window at hand decides, or the tick lies behind it.

@@ -8,12 +8,13 @@ use Rattle.model.specs.World.{Sent}
 use Rattle.model.specs.Tick.{Sight, may_send, sending, no}
 use Rattle.reference.specs.declared.letter.Letter.{Letter}
 use Rattle.reference.specs.declared.queue.Queue.{Queue}
+use Rattle.reference.specs.Kept.{held}
 
 unfoldable pub sent_of : Letter → Sent
 sent_of l = record { at = l.sent; bytes = l.bytes.items }
 
 unfoldable pub sents_of : Queue → List Sent
-sents_of q = map sent_of q.messages.items
+sents_of q = map sent_of (held q.messages)
 
 unfoldable pub sight_of : Queue → Sight
 sight_of q = record { plan = q.plan; messages = sents_of q }

@@ -9,6 +9,7 @@ use Rattle.model.specs.Tick.{new_runs}
 use Rattle.reference.specs.declared.task.Progress.{Progress}
 use Rattle.reference.specs.declared.task.Running.{Running}
 use Rattle.reference.specs.declared.part.Partition.{Partition}
+use Rattle.reference.specs.Kept.{held}
 
 unfoldable pub run_of : Progress → Run Core
 run_of r = record { state = r.state; core = core_of r.core; began = r.began; late = r.late }
@@ -27,7 +28,7 @@ unfoldable pub runs_of : Partition → List (Run Core)
 runs_of x = map run_in x.tasks.items
 
 unfoldable pub heard_of : Partition → List ℕ
-heard_of x = x.heard.items
+heard_of x = held x.heard
 
 -- The part with this memory, which has shown these bytes.
 unfoldable pub part_of : Partition → List ℕ → List (ℕ × ℕ) → Part Core

@@ -7,6 +7,7 @@
 #![tactic(auto)]
 
 mod access;
+mod kept;
 mod letter;
 mod own;
 pub mod part;

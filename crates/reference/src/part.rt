@@ -1,4 +1,5 @@
 //! A partition under way: its tasks, and the bytes from outside that it has not heard. Its memory is lent apart.
+use crate::kept::Kept;
 use crate::task::Running;
 use arrayvec::ArrayVec;
 
@@ -8,7 +9,7 @@ mod methods;
 #[derive(Drop)]
 pub struct Partition {
     tasks: ArrayVec<Running, 16>,
-    heard: ArrayVec<u8, 1024>,
+    heard: Kept<u8, 1024>,
 }
 
 /// Why a task is not added: there are sixteen.

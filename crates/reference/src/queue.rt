@@ -1,8 +1,8 @@
 //! A channel under way: its plan, and the messages in it.
 ghost use Rattle.std.specs.Prelude.{◌≤◌};
 
+use crate::kept::Kept;
 use crate::letter::Letter;
-use arrayvec::ArrayVec;
 use model::plan::Channel;
 
 mod methods;
@@ -11,7 +11,7 @@ mod methods;
 #[derive(Drop)]
 pub struct Queue {
     plan: Channel,
-    messages: ArrayVec<Letter, 64>,
+    messages: Kept<Letter, 64>,
     ghost small: { plan.bytes ≤ 1024 },
     ghost few: { plan.places ≤ 64 },
 }

@@ -8,8 +8,8 @@ use model::plan::Window;
 fn round_of(windows: &[Window]) -> u64
     ensures value { result ≡ min (round windows.now) 18446744073709551615 }
 {
-    let ticks = windows.iter().map(|w| u64::from(w.ticks));
-    ticks.fold(0, |sum, n| sum.saturating_add(n))
+    let ticks: u128 = windows.iter().map(|w| u128::from(w.ticks)).sum();
+    u64::try_from(ticks).unwrap_or(u64::MAX)
 }
 
 /// Whose tick it is so many ticks into the round, where the first ticks of each window are the system's.

@@ -84,11 +84,12 @@ pub(crate) fn run(
     let mut laid = Laid::new(heap, &view)?;
     let mut world = laid.start();
     let mut row = Vec::new(heap);
+    let partitions = view.partitions();
     for time in 0..outside.most() {
         if outside.is_over() {
             break;
         }
-        outside.take(view.partitions(), time, &mut row)?;
+        outside.take(partitions, time, &mut row)?;
         let over = |_| Refusal::Row(time as usize);
         if let Some(b) = world.tick(row.as_slice()).map_err(over)? {
             shown.push(b)?;

@@ -77,8 +77,13 @@ impl Draft<'_> {
             return None;
         }
         let mut size = Header::SIZE + Window::SIZE * windows + Channel::SIZE * channels;
+        let mut tasks = 0;
         for part in self.parts {
             size += part.size()?;
+            tasks += part.tasks.len();
+        }
+        if tasks > 512 {
+            return None;
         }
         Some(size)
     }

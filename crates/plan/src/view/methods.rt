@@ -10,12 +10,12 @@ ghost use Rattle.plan.specs.Views.{bytes_of, plan_of, memories_of, tasks_of, mem
 
 use super::View;
 use crate::check::PAGE;
+use crate::extent::Extent;
 use crate::head::{Header, PartHead};
 use crate::part::Part;
 use crate::reader::Reader;
 use crate::record::{FromBytes, nth};
 use model::plan::{Channel, Task, Window};
-use std::ops::Range;
 
 impl<'a> View<'a> {
     /// The plan in bytes that `check` took.
@@ -149,24 +149,28 @@ impl<'a> View<'a> {
     }
 
     /// Where a partition's memory lies in the bytes; nothing, at their front, where there is no such partition.
-    pub fn memory(&self, q: u8) -> Range<usize>
-        ensures value { between result.start result.end (bytes_of self.now) ≡ memory_of self.now q }
-        ensures bound { (result.start ≤ result.end) × (result.end ≤ length (bytes_of self.now)) }
+    pub fn memory(&self, q: u8) -> Extent
+        ensures value { between result.from result.to (bytes_of self.now) ≡ memory_of self.now q }
+        ensures bound { (result.from ≤ result.to) × (result.to ≤ length (bytes_of self.now)) }
     {
-        // Stays an empty range where there is none: what could not fail still cannot.
+        // Stays an empty extent where there is none: what could not fail still cannot.
         let Some(part) = self.part(q) else {
-            return 0..0;
+            return Extent { from: 0, to: 0 };
         };
         let h = self.header();
         let (_, r) = self.passed(h, h.partitions);
         let from = r.at + PAGE * part.before as usize;
-        from..from + PAGE * usize::from(part.head.pages)
+        Extent {
+            from,
+            to: from + PAGE * usize::from(part.head.pages),
+        }
     }
 
     /// A partition's memory at the start; nothing where there is no such partition.
     pub fn memory_bytes(&self, q: u8) -> &'a [u8]
         ensures value { result.now ≡ memory_of self.now q }
     {
-        &self.bytes[self.memory(q)]
+        let Extent { from, to } = self.memory(q);
+        &self.bytes[from..to]
     }
 }

@@ -12,6 +12,7 @@ ghost use Rattle.model.specs.Tick.{looked, first_ready, first_heard, better, mos
 ghost use Rattle.reference.specs.Parts.{tasks_of, runs_of, heard_of, run_of};
 
 use super::{Full, Partition};
+use crate::kept::Kept;
 use crate::task::{Progress, Running};
 use arrayvec::ArrayVec;
 use cpu::call::Answer;
@@ -26,7 +27,7 @@ impl Partition {
     {
         Partition {
             tasks: ArrayVec::new(),
-            heard: ArrayVec::new(),
+            heard: Kept::new(),
         }
     }
 
@@ -62,7 +63,7 @@ impl Partition {
         ensures runs { runs_of self.new ≡ runs_of self.old }
         ensures heard { heard_of self.new ≡ (if nat_lt (length (heard_of self.old)) most_unheard then heard_of self.old ++ byte ∷ [] else heard_of self.old) }
     {
-        let _ = self.heard.try_push(byte);
+        self.heard.push_if_room(byte);
     }
 
     /// Takes the unheard byte that came first.
@@ -72,10 +73,11 @@ impl Partition {
         ensures runs { runs_of self.new ≡ runs_of self.old }
         ensures heard { heard_of self.new ≡ drop 1 (heard_of self.old) }
     {
-        match self.heard.pop_at(0) {
-            Some(byte) => Answer::Value(u32::from(byte)),
-            None => Answer::NO,
-        }
+        let Some(&byte) = self.heard.as_slice().first() else {
+            return Answer::NO;
+        };
+        self.heard.drop_first();
+        Answer::Value(u32::from(byte))
     }
 
     /// Looks at all tasks: each that waits may begin anew, and each that is ready may be late.

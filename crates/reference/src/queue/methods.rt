@@ -5,8 +5,8 @@ ghost use Rattle.std.specs.Prelude.{◌≡◌, ◌≤◌, [], MatchOption};
 ghost use Rattle.reference.specs.Letters.{sents_of, sight_of, posting, collecting};
 
 use super::Queue;
+use crate::kept::Kept;
 use crate::letter::Letter;
-use arrayvec::ArrayVec;
 use cpu::call::Answer;
 use model::plan::Channel;
 
@@ -21,7 +21,7 @@ impl Queue {
         }
         Some(Queue {
             plan,
-            messages: ArrayVec::new(),
+            messages: Kept::new(),
         })
     }
 
@@ -71,7 +71,7 @@ impl Queue {
         if self.plan.to != to {
             return Answer::NO;
         }
-        let Some(letter) = self.messages.first() else {
+        let Some(letter) = self.messages.as_slice().first() else {
             return Answer::NO;
         };
         let bytes = letter.bytes.as_slice();
@@ -83,7 +83,7 @@ impl Queue {
         octets::copy(memory, start, bytes);
         let age = (time.saturating_sub(letter.sent) % 4294967295) as u32;
         if self.plan.places > 0 {
-            self.messages.remove(0);
+            self.messages.drop_first();
         }
         Answer::Message {
             age,

@@ -1,10 +1,12 @@
-use Rattle.std.proofs.Common.{◌≡◌, ℕ, ◌+◌, min, map, fold, rules, ◌∙◌, arith}
+use Rattle.std.proofs.Common.{◌≡◌, min, sum, map, rules, ap, ◌∙◌}
 use Rattle.model.specs.declared.plan.Window.{Window}
-use Rattle.reference.proofs.Turns.{fold_round}
+use Rattle.model.specs.World.{round}
+use Rattle.reference.proofs.Turns.{sum_round, capped_at}
 use Rattle.reference.proofs.turn.round_of.Goals as goal
 
 pub returns : goal.returns
 returns c =
-    let most : ℕ = 18446744073709551615 in
-    let folds : c.fold.result ≡ fold (λ s n. min (s + n) most) 0 (map (λ (w : Window). w.ticks) c.args.windows.now) = search rules in
-    record { value = folds ∙ fold_round most c.args.windows.now 0 (omega arith) ∙ omega arith }
+    let ws = c.args.windows.now in
+    let sums : c.sum-ticks.result ≡ sum (map (λ (w : Window). w.ticks) ws) = search rules in
+    let total : c.sum-ticks.result ≡ round ws = sums ∙ sum_round ws in
+    record { value = c.unwrap_or.ensures ∙ capped_at c.try_from.result c.sum-ticks.result c.try_from.ensures ∙ ap (λ n. min n 18446744073709551615) total }

@@ -10,7 +10,7 @@ loop-i-preserved g c =
     let l = c.loop-i in
     let r = c.in_ok-read.ensures in (
       ap (λ xs. seen ((times (c.args.n - (l._i + 1)) k).read xs c.read.new.r.at)) r.bytes
-          ∙ sym (times_step c.args.n l._i k (λ x. tt) l.self.bytes.now l.self.at _ _ c.loop-i-test.true (sym r.value))
+          ∙ sym (times_step c.args.n l._i k (λ x. tt) l.r.bytes.now l.r.at _ _ c.loop-i-test.true (sym r.value))
           ∙ l.invariant.0,
       r.bytes ∙ l.invariant.1,
     )

@@ -7,5 +7,5 @@ use Rattle.plan.proofs.reader.Reader.pass.Given as goal
 abbrev pub invariant-loop-i : goal.invariant-loop-i
 invariant-loop-i g l =
     let c = g.R.FromBytes.codec l.around in
-    (seen ((times (l.n - l._i) c).read l.self.bytes.now l.self.at) ≡ seen ((times l.n c).read l.initial.self.bytes.now l.initial.self.at))
-    × (l.self.bytes.now ≡ l.initial.self.bytes.now)
+    (seen ((times (l.n - l._i) c).read l.r.bytes.now l.r.at) ≡ seen ((times l.n c).read l.initial.r.bytes.now l.initial.r.at))
+    × (l.r.bytes.now ≡ l.initial.r.bytes.now)
