@@ -1,5 +1,4 @@
 -- A loaded partition as it is handed over. Assumes nothing: these are definitions.
-use Rattle.std.specs.Prelude.{map}
 use Rattle.plan.specs.Given.{Given}
 use Rattle.mkplan.specs.declared.memories.Loaded.{Loaded}
 
